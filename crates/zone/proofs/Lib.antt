@@ -1,0 +1,5 @@
+pub mod Tests
+pub mod Groups
+pub mod Table
+pub mod Written
+pub mod Sound

@@ -1,0 +1,119 @@
+-- Which zones are sound: the new and the empty one, and a sound one after a write or a report in range. An absent one is the empty zone. Assumes nothing.
+use Prim.Native.Nat.{ℕ}
+use mathlib.Core.Path.{_≡_, refl, sym, ap, _∙_}
+use mathlib.Core.Bool.{Bool, true, false, cond, _&&_}
+use lib.Dec.{eqb, leb·zero}
+use borrow.Author.Tests.{eqb-true}
+use Rattle.zone.specs.declared.figures.Group.the-variants.{Ahue, Hzbg, Rrue, Solw}
+use Rattle.zone.specs.declared.figures.Figures.{Figures}
+use Rattle.zone.specs.declared.figures.Figures.the-variants.{AhueDeadline, AhueWindow, HzbgLimit, RrueReference, SolwSetpoint}
+use Rattle.zone.specs.declared.status.State.{State}
+use Rattle.zone.specs.declared.status.State.the-variants.{Off, On, Calibration, Error}
+use Rattle.zone.specs.declared.status.Status.{Status}
+use Rattle.zone.specs.declared.zones.Watch.{Watch}
+use Rattle.zone.specs.declared.zones.Watch.the-variants.{Deadline, Window}
+use Rattle.zone.specs.declared.zones.Settings.{Settings}
+use Rattle.zone.specs.declared.zones.Zone.{Zone}
+use Rattle.zone.specs.Lists.{isZero}
+use Rattle.zone.specs.Figures.{inRange, allZero}
+use Rattle.zone.specs.Zones.{newZone, emptyZone, watchFigures, figuresOf, addressInRange, rangeKnown, actualInRange, isOff, isDeadline, groupsInRange, presentSound, groupsZero, zoneEmpty, zoneSound, withStatus, withFigures}
+use Rattle.zone.proofs.Tests.{never, and-l, and-r}
+
+-- the parts of a present zone's soundness, one by one
+pub record Fit (z : Zone) : Type 0 where
+  pub address : addressInRange (z .address) ≡ true
+  pub range : rangeKnown (z .range) ≡ true
+  pub actual : actualInRange (z .status .actual) ≡ true
+  pub ahue : inRange (z .range) (figuresOf z Ahue) ≡ true
+  pub hzbg : inRange (z .range) (figuresOf z Hzbg) ≡ true
+  pub rrue : inRange (z .range) (figuresOf z Rrue) ≡ true
+  pub solw : inRange (z .range) (figuresOf z Solw) ≡ true
+
+pub fits : (z : Zone) → z .present ≡ true → zoneSound z ≡ true → Fit z
+unfolding zoneSound
+fits z p s =
+    let h : presentSound z ≡ true = rw p at s in
+    let groups : groupsInRange z ≡ true = search (and-l, and-r) in
+    record {
+      address = search (and-l, and-r);
+      range = search (and-l, and-r);
+      actual = search (and-l, and-r);
+      ahue = search (and-l, and-r);
+      hzbg = search (and-l, and-r);
+      rrue = search (and-l, and-r);
+      solw = search (and-l, and-r);
+    }
+
+pub fitting : (z : Zone) → z .present ≡ true → Fit z → zoneSound z ≡ true
+unfolding zoneSound
+fitting z p k = rw p (rw (k .address, k .range, k .actual, k .ahue, k .hzbg, k .rrue, k .solw))
+
+pub empty-sound : zoneSound emptyZone ≡ true
+unfolding zoneSound allZero
+empty-sound = refl
+
+pub new-sound : (address range : ℕ) → addressInRange address ≡ true → rangeKnown range ≡ true → zoneSound (newZone address range) ≡ true
+unfolding zoneSound inRange
+new-sound address range a r = rw (a, r, leb·zero range)
+
+pub status-sound : (z : Zone) (s : Status) → z .present ≡ true → zoneSound z ≡ true → actualInRange (s .actual) ≡ true → zoneSound (withStatus z s) ≡ true
+status-sound z s p h a =
+    let k = fits z p h in
+    fitting (withStatus z s) p (record { address = k .address; range = k .range; actual = a; ahue = k .ahue; hzbg = k .hzbg; rrue = k .rrue; solw = k .solw })
+
+pub figures-sound : (z : Zone) (f : Figures) → z .present ≡ true → zoneSound z ≡ true → inRange (z .range) f ≡ true → zoneSound (withFigures z f) ≡ true
+figures-sound z f p h e = by-form f e
+  where
+    k : Fit z
+    k = fits z p h
+
+    by-form : (f : Figures) → inRange (z .range) f ≡ true → zoneSound (withFigures z f) ≡ true
+    by-form (AhueDeadline f) e = fitting _ p (record { address = k .address; range = k .range; actual = k .actual; ahue = e; hzbg = k .hzbg; rrue = k .rrue; solw = k .solw })
+    by-form (AhueWindow f) e = fitting _ p (record { address = k .address; range = k .range; actual = k .actual; ahue = e; hzbg = k .hzbg; rrue = k .rrue; solw = k .solw })
+    by-form (HzbgLimit f) e = fitting _ p (record { address = k .address; range = k .range; actual = k .actual; ahue = k .ahue; hzbg = e; rrue = k .rrue; solw = k .solw })
+    by-form (RrueReference f) e = fitting _ p (record { address = k .address; range = k .range; actual = k .actual; ahue = k .ahue; hzbg = k .hzbg; rrue = e; solw = k .solw })
+    by-form (SolwSetpoint f) e = fitting _ p (record { address = k .address; range = k .range; actual = k .actual; ahue = k .ahue; hzbg = k .hzbg; rrue = k .rrue; solw = e })
+
+-- ---- an absent zone that is sound is the empty zone
+
+off : (s : State) → isOff s ≡ true → s ≡ Off
+off Off e = refl
+off On e = never e
+off Calibration e = never e
+off Error e = never e
+
+zero : (n : ℕ) → isZero n ≡ true → n ≡ 0
+zero n e = eqb-true n 0 e
+
+watch-zero : (w : Watch) → isDeadline w ≡ true → allZero (watchFigures w) ≡ true → w ≡ emptyZone .watch
+unfolding allZero
+watch-zero (Deadline f) e h =
+    let flag : f .flag ≡ 0 = zero _ (search (and-l, and-r)) in
+    let lower : f .lower ≡ 0 = zero _ (search (and-l, and-r)) in
+    let upper : f .upper ≡ 0 = zero _ (search (and-l, and-r)) in
+    let time : f .time ≡ 0 = zero _ (search (and-l, and-r)) in
+    λ i. Deadline (record { flag = flag i; lower = lower i; upper = upper i; time = time i })
+watch-zero (Window f) e h = never e
+
+settings-zero : (s : Settings) → allZero (HzbgLimit (s .limit)) ≡ true → allZero (RrueReference (s .reference)) ≡ true → allZero (SolwSetpoint (s .setpoint)) ≡ true → s ≡ emptyZone .settings
+unfolding allZero
+settings-zero s l r p =
+    let time : s .limit .time ≡ 0 = zero _ (search (and-l, and-r)) in
+    let flag : s .reference .flag ≡ 0 = zero _ (search (and-l, and-r)) in
+    let lower : s .reference .lower ≡ 0 = zero _ (search (and-l, and-r)) in
+    let upper : s .reference .upper ≡ 0 = zero _ (search (and-l, and-r)) in
+    let setpoint : s .setpoint .setpoint ≡ 0 = zero _ (search (and-l, and-r)) in
+    λ i. record { limit = record { time = time i }; reference = record { flag = flag i; lower = lower i; upper = upper i }; setpoint = record { setpoint = setpoint i } }
+
+pub absent-empty : (z : Zone) → z .present ≡ false → zoneSound z ≡ true → z ≡ emptyZone
+unfolding zoneSound
+absent-empty z p s =
+    let h : zoneEmpty z ≡ true = rw p at s in
+    let groups : groupsZero z ≡ true = search (and-l, and-r) in
+    let address : z .address ≡ 0 = zero _ (search (and-l, and-r)) in
+    let range : z .range ≡ 0 = zero _ (search (and-l, and-r)) in
+    let actual : z .status .actual ≡ 0 = zero _ (search (and-l, and-r)) in
+    let state : z .status .state ≡ Off = off _ (search (and-l, and-r)) in
+    let watch = watch-zero (z .watch) (search (and-l, and-r)) (search (and-l, and-r)) in
+    let settings = settings-zero (z .settings) (search (and-l, and-r)) (search (and-l, and-r)) (search (and-l, and-r)) in
+    λ i. record { present = p i; address = address i; range = range i; status = record { state = state i; actual = actual i }; watch = watch i; settings = settings i }

@@ -1,0 +1,12 @@
+-- What document 01 prints beside its table follows from the table. Assumes nothing.
+use mathlib.Core.Path.{_≡_, refl}
+use mathlib.Core.List.{[], _∷_, map}
+use Rattle.zone.specs.Table.{everyForm, lineLength, frameLength}
+
+-- "So a write is 19 bytes for AHUE deadline, 23 for AHUE window, 9 for HZBG, 15 for RRUE, 9 for SOLW"
+pub line-lengths : map lineLength everyForm ≡ 19 ∷ 23 ∷ 9 ∷ 15 ∷ 9 ∷ []
+line-lengths = refl
+
+-- "L of a write is 8 for AHUE deadline, 10 for AHUE window, 5 for HZBG, 6 for RRUE, 5 for SOLW"
+pub frame-lengths : map frameLength everyForm ≡ 8 ∷ 10 ∷ 5 ∷ 6 ∷ 5 ∷ []
+frame-lengths = refl

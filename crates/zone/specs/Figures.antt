@@ -1,0 +1,47 @@
+-- A group's figures are a form of the table with its numbers.
+use Prim.Native.Nat.{ℕ}
+use mathlib.Core.Bool.{Bool}
+use mathlib.Core.List.{List, [], _∷_}
+use Rattle.zone.specs.declared.figures.Group.{Group}
+use Rattle.zone.specs.declared.figures.Figures.{Figures}
+use Rattle.zone.specs.declared.figures.Figures.the-variants.{AhueDeadline, AhueWindow, HzbgLimit, RrueReference, SolwSetpoint}
+use Rattle.zone.specs.Lists.{within, isZero, every}
+use Rattle.zone.specs.Table.{Column, Form, deadline, window, hzbg, rrue, solw, row}
+
+abbrev pub formOf : Figures → Form
+formOf (AhueDeadline f) = deadline
+formOf (AhueWindow f) = window
+formOf (HzbgLimit f) = hzbg
+formOf (RrueReference f) = rrue
+formOf (SolwSetpoint f) = solw
+
+abbrev pub groupOf : Figures → Group
+groupOf figures = row (formOf figures) .group
+
+-- "Figures, in order"
+abbrev pub numbers : Figures → List ℕ
+numbers (AhueDeadline f) = f .flag ∷ f .lower ∷ f .upper ∷ f .time ∷ []
+numbers (AhueWindow f) = f .flag ∷ f .lower ∷ f .upper ∷ f .begin ∷ f .end ∷ []
+numbers (HzbgLimit f) = f .time ∷ []
+numbers (RrueReference f) = f .flag ∷ f .lower ∷ f .upper ∷ []
+numbers (SolwSetpoint f) = f .setpoint ∷ []
+
+-- a column of the table with the number that stands in it
+pub record Entry : Type 0 where
+  pub column : Column
+  pub number : ℕ
+
+abbrev pub entries : List Column → List ℕ → List Entry
+entries [] ns = []
+entries (k ∷ ks) [] = []
+entries (k ∷ ks) (n ∷ ns) = record { column = k; number = n } ∷ entries ks ns
+
+abbrev pub entriesOf : Figures → List Entry
+entriesOf figures = entries (row (formOf figures) .figures) (numbers figures)
+
+-- "each figure is judged by its own range only", in a zone of that temperature range
+unfoldable pub inRange : ℕ → Figures → Bool
+inRange range figures = every (λ e. within (e .column .lowest) (e .column .highest range) (e .number)) (entriesOf figures)
+
+unfoldable pub allZero : Figures → Bool
+allZero figures = every isZero (numbers figures)

@@ -1,0 +1,135 @@
+-- The zone: what a new and an absent one hold, when one is sound, what is read from it and written to it.
+use Prim.Native.Nat.{ℕ}
+use mathlib.Core.Bool.{Bool, true, false, cond, _&&_, _||_}
+use lib.Dec.{leb, eqb}
+use Rattle.zone.specs.declared.figures.Group.{Group}
+use Rattle.zone.specs.declared.figures.Group.the-variants.{Ahue, Hzbg, Rrue, Solw}
+use Rattle.zone.specs.declared.figures.Figures.{Figures}
+use Rattle.zone.specs.declared.figures.Figures.the-variants.{AhueDeadline, AhueWindow, HzbgLimit, RrueReference, SolwSetpoint}
+use Rattle.zone.specs.declared.status.State.{State}
+use Rattle.zone.specs.declared.status.State.the-variants.{Off, On, Calibration, Error}
+use Rattle.zone.specs.declared.status.Status.{Status}
+use Rattle.zone.specs.declared.zones.Watch.{Watch}
+use Rattle.zone.specs.declared.zones.Watch.the-variants.{Deadline, Window}
+use Rattle.zone.specs.declared.zones.Settings.{Settings}
+use Rattle.zone.specs.declared.zones.Zone.{Zone}
+use Rattle.zone.specs.Lists.{within, isZero, every}
+use Rattle.zone.specs.Table.{everyGroup}
+use Rattle.zone.specs.Figures.{inRange, allZero}
+
+-- "A new zone is Off with actual value 0, watch off (deadline form, lower 10, upper 10, time 10), heating limit 0, reference watch off with 10 and 10, setpoint 0"
+abbrev pub newZone : ℕ → ℕ → Zone
+newZone address range = record {
+  present = true;
+  address = address;
+  range = range;
+  status = record { state = Off; actual = 0 };
+  watch = Deadline (record { flag = 0; lower = 10; upper = 10; time = 10 });
+  settings = record { limit = record { time = 0 }; reference = record { flag = 0; lower = 10; upper = 10 }; setpoint = record { setpoint = 0 } };
+}
+
+-- "An absent zone holds nothing: all its numbers are 0, its state is Off, its watch a deadline"
+abbrev pub emptyZone : Zone
+emptyZone = record {
+  present = false;
+  address = 0;
+  range = 0;
+  status = record { state = Off; actual = 0 };
+  watch = Deadline (record { flag = 0; lower = 0; upper = 0; time = 0 });
+  settings = record { limit = record { time = 0 }; reference = record { flag = 0; lower = 0; upper = 0 }; setpoint = record { setpoint = 0 } };
+}
+
+-- ---- what is read
+
+abbrev pub watchFigures : Watch → Figures
+watchFigures (Deadline f) = AhueDeadline f
+watchFigures (Window f) = AhueWindow f
+
+-- the figures of a group; "AHUE is read in the form last written"
+abbrev pub figuresOf : Zone → Group → Figures
+figuresOf z Ahue = watchFigures (z .watch)
+figuresOf z Hzbg = HzbgLimit (z .settings .limit)
+figuresOf z Rrue = RrueReference (z .settings .reference)
+figuresOf z Solw = SolwSetpoint (z .settings .setpoint)
+
+-- a present zone with that address
+abbrev pub holds : ℕ → Zone → Bool
+holds address z = z .present && eqb (z .address) address
+
+-- ---- when it is sound
+
+-- "an address, 1 to 254"
+abbrev pub addressInRange : ℕ → Bool
+addressInRange address = within 1 254 address
+
+-- "a temperature range, 300 or 500"
+abbrev pub rangeKnown : ℕ → Bool
+rangeKnown range = eqb range 300 || eqb range 500
+
+-- "the actual value, 0 to 999"
+abbrev pub actualInRange : ℕ → Bool
+actualInRange actual = leb actual 999
+
+abbrev pub groupsInRange : Zone → Bool
+groupsInRange z = every (λ group. inRange (z .range) (figuresOf z group)) everyGroup
+
+-- "every figure of every present zone lies in its range"
+abbrev pub presentSound : Zone → Bool
+presentSound z = addressInRange (z .address) && rangeKnown (z .range) && actualInRange (z .status .actual) && groupsInRange z
+
+abbrev pub isOff : State → Bool
+isOff Off = true
+isOff On = false
+isOff Calibration = false
+isOff Error = false
+
+abbrev pub isDeadline : Watch → Bool
+isDeadline (Deadline f) = true
+isDeadline (Window f) = false
+
+abbrev pub groupsZero : Zone → Bool
+groupsZero z = every (λ group. allZero (figuresOf z group)) everyGroup
+
+-- "all its numbers are 0, its state is Off, its watch a deadline"
+abbrev pub zoneEmpty : Zone → Bool
+zoneEmpty z = isZero (z .address) && isZero (z .range) && isZero (z .status .actual) && groupsZero z && isOff (z .status .state) && isDeadline (z .watch)
+
+unfoldable pub zoneSound : Zone → Bool
+zoneSound z = cond (z .present) (presentSound z) (zoneEmpty z)
+
+-- ---- what is written
+
+-- "states 0 Off, 1 On, 2 Calibration, 3 Error"
+abbrev pub stateNumbered : ℕ → State
+stateNumbered n = cond (eqb n 0) Off (cond (eqb n 1) On (cond (eqb n 2) Calibration Error))
+
+abbrev pub withStatus : Zone → Status → Zone
+withStatus z status = record { present = z .present; address = z .address; range = z .range; status = status; watch = z .watch; settings = z .settings }
+
+abbrev pub withWatch : Zone → Watch → Zone
+withWatch z watch = record { present = z .present; address = z .address; range = z .range; status = z .status; watch = watch; settings = z .settings }
+
+abbrev pub withSettings : Zone → Settings → Zone
+withSettings z settings = record { present = z .present; address = z .address; range = z .range; status = z .status; watch = z .watch; settings = settings }
+
+-- the zone with the figures of one group set
+abbrev pub withFigures : Zone → Figures → Zone
+withFigures z (AhueDeadline f) = withWatch z (Deadline f)
+withFigures z (AhueWindow f) = withWatch z (Window f)
+withFigures z (HzbgLimit f) = withSettings z (record { limit = f; reference = z .settings .reference; setpoint = z .settings .setpoint })
+withFigures z (RrueReference f) = withSettings z (record { limit = z .settings .limit; reference = f; setpoint = z .settings .setpoint })
+withFigures z (SolwSetpoint f) = withSettings z (record { limit = z .settings .limit; reference = z .settings .reference; setpoint = f })
+
+-- "SOLW may be written in every state"
+abbrev pub lockable : Group → Bool
+lockable Ahue = true
+lockable Hzbg = true
+lockable Rrue = true
+lockable Solw = false
+
+-- "the other groups may not be written in On or Calibration"
+abbrev pub locks : State → Group → Bool
+locks Off group = false
+locks On group = lockable group
+locks Calibration group = lockable group
+locks Error group = false

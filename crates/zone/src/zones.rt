@@ -1,0 +1,260 @@
+// The zone: what it keeps, when it is sound, what is read from it and written to it.
+use crate::figures::DeadlineFigures;
+use crate::figures::Figures;
+use crate::figures::Group;
+use crate::figures::LimitFigures;
+use crate::figures::ReferenceFigures;
+use crate::figures::SetpointFigures;
+use crate::figures::WindowFigures;
+use crate::status::State;
+use crate::status::Status;
+use crate::status::actual_in_range;
+ghost use mathlib.Core.Path.{_≡_};
+ghost use Rattle.zone.specs.Zones.{watchFigures, figuresOf, newZone, emptyZone, addressInRange, rangeKnown, groupsInRange, presentSound, isDeadline, groupsZero, zoneEmpty, zoneSound, holds, withStatus, withWatch, withSettings, withFigures};
+
+// The heating watch: a deadline or a window, each with its own figures.
+pub enum Watch {
+    Deadline(DeadlineFigures),
+    Window(WindowFigures),
+}
+
+// What is written besides the heating watch.
+pub struct Settings {
+    pub limit: LimitFigures,
+    pub reference: ReferenceFigures,
+    pub setpoint: SetpointFigures,
+}
+
+pub struct Zone {
+    pub present: bool,
+    pub address: u32,
+    pub range: u32,
+    pub status: Status,
+    pub watch: Watch,
+    pub settings: Settings,
+}
+
+impl Watch {
+    fn figures(self) -> Figures
+        ensures { λ r. ⌜ r ≡ watchFigures self ⌝ }
+    {
+        match self {
+            Watch::Deadline(f) => Figures::AhueDeadline(f),
+            Watch::Window(f) => Figures::AhueWindow(f),
+        }
+    }
+
+    fn is_deadline(self) -> bool
+        ensures { λ r. ⌜ r ≡ isDeadline self ⌝ }
+    {
+        match self {
+            Watch::Deadline(_) => true,
+            Watch::Window(_) => false,
+        }
+    }
+}
+
+pub fn address_in_range(address: u32) -> bool
+    ensures { λ r. ⌜ r ≡ addressInRange address ⌝ }
+{
+    (1 <= address) & (address <= 254)
+}
+
+pub fn range_known(range: u32) -> bool
+    ensures { λ r. ⌜ r ≡ rangeKnown range ⌝ }
+{
+    (range == 300) | (range == 500)
+}
+
+impl Zone {
+    // A zone that was just added.
+    pub fn new(address: u32, range: u32) -> Zone
+        ensures { λ r. ⌜ r ≡ newZone address range ⌝ }
+    {
+        Zone {
+            present: true,
+            address: address,
+            range: range,
+            status: Status {
+                state: State::Off,
+                actual: 0,
+            },
+            watch: Watch::Deadline(DeadlineFigures {
+                flag: 0,
+                lower: 10,
+                upper: 10,
+                time: 10,
+            }),
+            settings: Settings {
+                limit: LimitFigures { time: 0 },
+                reference: ReferenceFigures {
+                    flag: 0,
+                    lower: 10,
+                    upper: 10,
+                },
+                setpoint: SetpointFigures { setpoint: 0 },
+            },
+        }
+    }
+
+    // An absent zone: it holds nothing.
+    pub fn empty() -> Zone
+        ensures { λ r. ⌜ r ≡ emptyZone ⌝ }
+    {
+        Zone {
+            present: false,
+            address: 0,
+            range: 0,
+            status: Status {
+                state: State::Off,
+                actual: 0,
+            },
+            watch: Watch::Deadline(DeadlineFigures {
+                flag: 0,
+                lower: 0,
+                upper: 0,
+                time: 0,
+            }),
+            settings: Settings {
+                limit: LimitFigures { time: 0 },
+                reference: ReferenceFigures {
+                    flag: 0,
+                    lower: 0,
+                    upper: 0,
+                },
+                setpoint: SetpointFigures { setpoint: 0 },
+            },
+        }
+    }
+
+    // A present zone with that address.
+    pub fn holds(self, address: u32) -> bool
+        ensures { λ r. ⌜ r ≡ holds address self ⌝ }
+    {
+        self.present & (self.address == address)
+    }
+
+    // The figures of a group, as the zone keeps them.
+    pub fn figures(self, group: Group) -> Figures
+        ensures { λ r. ⌜ r ≡ figuresOf self group ⌝ }
+    {
+        let watch = self.watch;
+        let settings = self.settings;
+        let limit = settings.limit;
+        let reference = settings.reference;
+        let setpoint = settings.setpoint;
+        match group {
+            Group::Ahue => watch.figures(),
+            Group::Hzbg => Figures::HzbgLimit(limit),
+            Group::Rrue => Figures::RrueReference(reference),
+            Group::Solw => Figures::SolwSetpoint(setpoint),
+        }
+    }
+
+    // The zone with the figures of one group set.
+    pub fn with_figures(self, figures: Figures) -> Zone
+        ensures { λ r. ⌜ r ≡ withFigures self figures ⌝ }
+    {
+        let mut settings = self.settings;
+        match figures {
+            Figures::AhueDeadline(f) => self.with_watch(Watch::Deadline(f)),
+            Figures::AhueWindow(f) => self.with_watch(Watch::Window(f)),
+            Figures::HzbgLimit(f) => {
+                settings.limit = f;
+                self.with_settings(settings)
+            }
+            Figures::RrueReference(f) => {
+                settings.reference = f;
+                self.with_settings(settings)
+            }
+            Figures::SolwSetpoint(f) => {
+                settings.setpoint = f;
+                self.with_settings(settings)
+            }
+        }
+    }
+
+    // The zone as a report leaves it.
+    pub fn with_status(mut self, status: Status) -> Zone
+        ensures { λ r. ⌜ r ≡ withStatus self status ⌝ }
+    {
+        self.status = status;
+        self
+    }
+
+    fn with_watch(self, watch: Watch) -> Zone
+        ensures { λ r. ⌜ r ≡ withWatch self watch ⌝ }
+    {
+        let status = self.status;
+        let settings = self.settings;
+        Zone {
+            present: self.present,
+            address: self.address,
+            range: self.range,
+            status: status,
+            watch: watch,
+            settings: settings,
+        }
+    }
+
+    fn with_settings(mut self, settings: Settings) -> Zone
+        ensures { λ r. ⌜ r ≡ withSettings self settings ⌝ }
+    {
+        self.settings = settings;
+        self
+    }
+
+    // A present zone has every figure in its range, and an absent one is empty.
+    pub fn is_sound(self) -> bool
+        ensures { λ r. ⌜ r ≡ zoneSound self ⌝ }
+    {
+        if self.present {
+            self.figures_sound()
+        } else {
+            self.is_empty()
+        }
+    }
+
+    fn figures_sound(self) -> bool
+        ensures { λ r. ⌜ r ≡ presentSound self ⌝ }
+    {
+        let status = self.status;
+        address_in_range(self.address)
+            & range_known(self.range)
+            & actual_in_range(status.actual)
+            & self.groups_in_range()
+    }
+
+    fn groups_in_range(self) -> bool
+        ensures { λ r. ⌜ r ≡ groupsInRange self ⌝ }
+    {
+        let range = self.range;
+        self.figures(Group::Ahue).in_range(range)
+            & self.figures(Group::Hzbg).in_range(range)
+            & self.figures(Group::Rrue).in_range(range)
+            & self.figures(Group::Solw).in_range(range)
+    }
+
+    fn is_empty(self) -> bool
+        ensures { λ r. ⌜ r ≡ zoneEmpty self ⌝ }
+    {
+        let status = self.status;
+        let state = status.state;
+        let watch = self.watch;
+        (self.address == 0)
+            & (self.range == 0)
+            & (status.actual == 0)
+            & self.groups_zero()
+            & state.is_off()
+            & watch.is_deadline()
+    }
+
+    fn groups_zero(self) -> bool
+        ensures { λ r. ⌜ r ≡ groupsZero self ⌝ }
+    {
+        self.figures(Group::Ahue).all_zero()
+            & self.figures(Group::Hzbg).all_zero()
+            & self.figures(Group::Rrue).all_zero()
+            & self.figures(Group::Solw).all_zero()
+    }
+}
