@@ -1,0 +1,79 @@
+-- How a call at a zone comes to the definition's result. Assumes nothing.
+use Prim.Native.Nat.{ℕ, _<_}
+use mathlib.Core.Path.{_≡_, refl, sym, ap, _∙_}
+use mathlib.Core.Bool.{Bool, true, false, cond, not, _||_}
+use mathlib.Core.List.{List, [], _∷_}
+use native.Mathlib.Omega.{arith}
+use lib.Seq.{set-getD}
+use lib.Dec.{leb}
+use borrow.Author.Tests.{leb-false}
+use Rattle.zone.specs.declared.figures.Figures.{Figures}
+use Rattle.zone.specs.declared.zones.Zone.{Zone}
+use Rattle.zone.specs.Lists.{isZero}
+use Rattle.zone.specs.Zones.{emptyZone}
+use Rattle.zone.proofs.Tests.{neither}
+use Rattle.card.specs.declared.answers.Refusal.{Refusal}
+use Rattle.card.specs.declared.answers.Refusal.the-variants.{NotSound, NoZone}
+use Rattle.card.specs.declared.records.Reached.{Reached}
+use Rattle.card.specs.declared.records.Reached.the-variants.{At, Stopped}
+use Rattle.card.specs.declared.records.Record.{Record}
+use Rattle.card.specs.Answers.{Result, refusalNumber}
+use Rattle.card.specs.Refusals.{Row, first, settled, _gives_}
+use Rattle.card.specs.Records.{zoneAt, withZone, sound, noZone, reachOf}
+use Rattle.card.specs.Calls.{Judgement, atZone, judged, stored}
+
+-- to store the zone that stands there already is to store nothing
+pub same-zone : (r : Record) (n : ℕ) → withZone r n (zoneAt r n) ≡ r
+same-zone r n = ap (λ (zs : List Zone). record { zones = zs }) (set-getD (r .zones) n emptyZone)
+
+-- what the zone decides, stored, is what the record decides by the same refusals
+pub stored-settled : (r : Record) (n : ℕ) (rows : List Row) (values : List Figures) (z : Zone)
+    → stored r n (settled (zoneAt r n) rows values z) ≡ settled r rows values (withZone r n z)
+stored-settled r n rows values z = by-done (isZero (first rows))
+  where
+    by-done : (done : Bool)
+        → _≡_ {A = Result Record}
+        (record { number = first rows; values = cond done values []; after = withZone r n (cond done z (zoneAt r n)) })
+        (record { number = first rows; values = cond done values []; after = cond done (withZone r n z) r })
+    by-done true = refl
+    by-done false = ap (λ (x : Record). record { number = first rows; values = []; after = x }) (same-zone r n)
+
+-- ---- a call at a zone, by what stands there
+
+-- what stands at zone n of r, by the tests of soundness and of the zone
+abbrev reachBy : Bool → Bool → Record → ℕ → Reached
+reachBy s t r n = cond (not s) (Stopped NotSound) (cond t (Stopped NoZone) (At (zoneAt r n)))
+
+-- where nothing is reached, the call is refused for that reason, whatever it asks
+pub stopped : (r : Record) (n : ℕ) (why : Refusal) (j : Judgement) → reachOf r n ≡ Stopped why
+    → record { number = refusalNumber why; values = []; after = r } ≡ atZone r n j
+unfolding reachOf
+stopped r n why j e = by-tests (sound r) (noZone r n) e
+  where
+    by-tests : (s t : Bool) → reachBy s t r n ≡ Stopped why
+        → record { number = refusalNumber why; values = []; after = r } ≡ settled r ((not s gives 2) ∷ (t gives 3) ∷ j .rows) (j .values) (withZone r n (j .after))
+    by-tests false t e = let w : why ≡ NotSound = cc in rw w
+    by-tests true true e = let w : why ≡ NoZone = cc in rw w
+    by-tests true false e = absurd (let z : _≡_ {A = ℕ} 0 1 = cc in omega arith)
+
+-- what a reached zone is
+pub record Reaches (r : Record) (n : ℕ) (z : Zone) : Type 0 where
+  pub zone : z ≡ zoneAt r n
+  pub below : n < 16
+  pub sound-record : sound r ≡ true
+  pub there : noZone r n ≡ false
+
+pub reaches : (r : Record) (n : ℕ) (z : Zone) → reachOf r n ≡ At z → Reaches r n z
+unfolding reachOf
+reaches r n z e = by-tests (sound r) (noZone r n) refl refl e
+  where
+    by-tests : (s t : Bool) → sound r ≡ s → noZone r n ≡ t → reachBy s t r n ≡ At z → Reaches r n z
+    by-tests false t p q e = absurd (let z : _≡_ {A = ℕ} 0 1 = cc in omega arith)
+    by-tests true true p q e = absurd (let z : _≡_ {A = ℕ} 0 1 = cc in omega arith)
+    by-tests true false p q e = record { zone = cc; below = leb-false 16 n (neither (leb 16 n) (not (zoneAt r n .present)) q .0); sound-record = p; there = q }
+
+-- where the zone is reached, the call comes to what the zone decides
+pub at-zone : (r : Record) (n : ℕ) (z : Zone) (j : Zone → Judgement) → reachOf r n ≡ At z → stored r n (judged z (j z)) ≡ atZone r n (j (zoneAt r n))
+at-zone r n z j e =
+    let k = reaches r n z e in
+    rw (k .sound-record, k .there, k .zone) (stored-settled r n (j (zoneAt r n) .rows) (j (zoneAt r n) .values) (j (zoneAt r n) .after))

@@ -1,0 +1,32 @@
+-- Where the zone is reached it is emptied; where not, the call is refused for that reason.
+use mathlib.Core.Path.{sym, ap, _∙_}
+use Rattle.zone.specs.declared.zones.Zone.{Zone}
+use Rattle.card.specs.Calls.{removeAt, removeOf, stored}
+use Rattle.card.proofs.Steps.{stopped, reaches, at-zone}
+use borrow.Author.Needs.{needs}
+use Rattle.card.proofs.records.Record.remove.Statement.{statement}
+use Rattle.card.proofs.records.Record.remove.Tie as tie
+
+changed-requires : tie.Need-changed-requires
+changed-requires c κs = reaches _ _ _ (sym (c .before .before .before .reach .ensures) ∙ c .before .enum-told .given .1) .below
+
+returns : tie.Need-returns
+unfolding removeOf
+returns c = rw (c .refused .ensures) (stopped _ _ _ removeAt (sym (c .before .before .before .before .reach .ensures) ∙ c .before .before .why .given .1))
+
+returns-2 : tie.Need-returns-2
+unfolding removeOf
+returns-2 c = c .changed .ensures ∙ rw (c .before .empty .ensures) (at-zone _ _ _ (λ z. removeAt) (sym (c .before .before .before .before .reach .ensures) ∙ c .before .before .enum-told .given .1))
+
+pub remove-spec : {M : Type 1} → statement M
+remove-spec =
+    tie.close
+    (tie.spec
+    (λ c κs. search needs)
+    (λ c. search needs)
+    (λ c κs. search needs)
+    (λ c. search needs)
+    (λ c κs. search needs)
+    changed-requires
+    returns
+    returns-2)

@@ -1,0 +1,64 @@
+-- Document 01's table of answer numbers, and what is seen of an answer: its number, its values and what is handed back.
+use Prim.Native.Nat.{ℕ}
+use mathlib.Core.List.{List, [], _∷_}
+use Rattle.zone.specs.declared.figures.Figures.{Figures}
+use Rattle.zone.specs.declared.zones.Zone.{Zone}
+use Rattle.card.specs.declared.answers.Refusal.{Refusal}
+use Rattle.card.specs.declared.answers.Refusal.the-variants.{NoRoom, NotSound, NoZone, NoFrame, NobodyHolds, Checksum, Unknown, Syntax, OutOfRange, Locked, AddressHeld, AlreadyPresent, Unreadable}
+use Rattle.card.specs.declared.answers.Answer.{Answer}
+use Rattle.card.specs.declared.answers.Answer.the-variants.{Done, Told, Refused}
+use Rattle.card.specs.declared.judgements.Change.{Change}
+use Rattle.card.specs.declared.records.Record.{Record}
+use Rattle.card.specs.declared.records.Outcome.{Outcome}
+
+-- "No." and "Given exactly when"
+abbrev pub refusalNumber : Refusal → ℕ
+-- "reply room below 32 bytes"
+refusalNumber NoRoom = 1
+-- "record not sound"
+refusalNumber NotSound = 2
+-- "zone above 15, or absent (for adding: above 15 only)"
+refusalNumber NoZone = 3
+-- "frame is not of the shape 68 L L 68 .. 16 with length L + 6 and L at least 3"
+refusalNumber NoFrame = 4
+-- "no present zone holds the address"
+refusalNumber NobodyHolds = 5
+-- "checksum differs"
+refusalNumber Checksum = 6
+-- "unknown function, first letter, name or index; a line under 5 bytes"
+refusalNumber Unknown = 7
+-- "known command, wrong length, spaces or digits"
+refusalNumber Syntax = 8
+-- "a figure outside its range (composing: one the road can't carry)"
+refusalNumber OutOfRange = 9
+-- "write not permitted in this state"
+refusalNumber Locked = 10
+-- "adding: address held by a present zone"
+refusalNumber AddressHeld = 11
+-- "adding: zone already present"
+refusalNumber AlreadyPresent = 12
+-- "log line unreadable (the program only)"
+refusalNumber Unreadable = 13
+
+abbrev pub numberOf : Answer → ℕ
+numberOf Done = 0
+numberOf (Told figures) = 0
+numberOf (Refused why) = refusalNumber why
+
+-- the figures that a done read tells; no other answer has any
+abbrev pub valuesOf : Answer → List Figures
+valuesOf Done = []
+valuesOf (Told figures) = figures ∷ []
+valuesOf (Refused why) = []
+
+-- what a call comes to: its number, the values beside it, and the record (or the one zone) afterwards
+pub record Result (A : Type 0) : Type 0 where
+  pub number : ℕ
+  pub values : List Figures
+  pub after : A
+
+abbrev pub outcomeSeen : Outcome → Result Record
+outcomeSeen o = record { number = numberOf (o .answer); values = valuesOf (o .answer); after = o .after }
+
+abbrev pub changeSeen : Change → Result Zone
+changeSeen c = record { number = numberOf (c .answer); values = valuesOf (c .answer); after = c .after }

@@ -1,0 +1,86 @@
+-- What each call comes to, for every record, sound or not. Its refusals stand in document 01's order.
+use Prim.Native.Nat.{ℕ}
+use mathlib.Core.Bool.{Bool, not, _&&_}
+use mathlib.Core.List.{List, [], _∷_}
+use lib.Dec.{leb}
+use Rattle.zone.specs.declared.figures.Figures.{Figures}
+use Rattle.zone.specs.declared.figures.Command.{Command}
+use Rattle.zone.specs.declared.figures.Command.the-variants.{Read, Write}
+use Rattle.zone.specs.declared.zones.Zone.{Zone}
+use Rattle.zone.specs.Figures.{groupOf, inRange}
+use Rattle.zone.specs.Zones.{newZone, emptyZone, figuresOf, addressInRange, rangeKnown, actualInRange, stateNumbered, withStatus, withFigures, locks}
+use Rattle.card.specs.declared.records.Record.{Record}
+use Rattle.card.specs.Answers.{Result}
+use Rattle.card.specs.Refusals.{Row, _gives_, settled}
+use Rattle.card.specs.Records.{zoneAt, withZone, heldIn, sound, noZone}
+
+-- "Adding a zone (zone, address, range): 2, 3, 12, 9, 11"
+abbrev pub addRows : Record → ℕ → ℕ → ℕ → List Row
+addRows r n address range =
+    (not (sound r) gives 2)
+    ∷ (leb 16 n gives 3)
+    ∷ (zoneAt r n .present gives 12)
+    ∷ (not (addressInRange address && rangeKnown range) gives 9)
+    ∷ (heldIn (r .zones) address gives 11)
+    ∷ []
+
+unfoldable pub addOf : Record → ℕ → ℕ → ℕ → Result Record
+addOf r n address range = settled r (addRows r n address range) [] (withZone r n (newZone address range))
+
+-- ---- calls at a present zone: 2, 3, and then what the zone itself decides
+
+-- the zone's own refusals; where none applies, the values that are told and the zone afterwards
+pub record Judgement : Type 0 where
+  pub rows : List Row
+  pub values : List Figures
+  pub after : Zone
+
+abbrev pub zoneRows : Record → ℕ → Judgement → List Row
+zoneRows r n j = (not (sound r) gives 2) ∷ (noZone r n gives 3) ∷ j .rows
+
+abbrev pub atZone : Record → ℕ → Judgement → Result Record
+atZone r n j = settled r (zoneRows r n j) (j .values) (withZone r n (j .after))
+
+-- "Removing: 2, 3"; "Removing empties the zone"
+abbrev pub removeAt : Judgement
+removeAt = record { rows = []; values = []; after = emptyZone }
+
+unfoldable pub removeOf : Record → ℕ → Result Record
+removeOf r n = atZone r n removeAt
+
+-- "Reporting state and actual value: 2, 3, 9"; "9 .. for a state number above 3 or an actual value above 999"
+abbrev pub reportAt : Zone → ℕ → ℕ → Judgement
+reportAt z state actual = record {
+  rows = (not (leb state 3 && actualInRange actual) gives 9) ∷ [];
+  values = [];
+  after = withStatus z (record { state = stateNumbered state; actual = actual });
+}
+
+unfoldable pub reportOf : Record → ℕ → ℕ → ℕ → Result Record
+reportOf r n state actual = atZone r n (reportAt (zoneAt r n) state actual)
+
+-- a write: 2, 3, 9, 10
+abbrev pub writeAt : Zone → Figures → Judgement
+writeAt z figures = record {
+  rows = (not (inRange (z .range) figures) gives 9) ∷ (locks (z .status .state) (groupOf figures) gives 10) ∷ [];
+  values = [];
+  after = withFigures z figures;
+}
+
+-- a read: 2, 3. "Reads are permitted in every state"; "a read alters nothing"
+abbrev pub commandAt : Zone → Command → Judgement
+commandAt z (Read group) = record { rows = []; values = figuresOf z group ∷ []; after = z }
+commandAt z (Write figures) = writeAt z figures
+
+unfoldable pub applyOf : Record → ℕ → Command → Result Record
+applyOf r n command = atZone r n (commandAt (zoneAt r n) command)
+
+-- ---- the steps that the calls are made of
+
+-- what one present zone decides
+abbrev pub judged : Zone → Judgement → Result Zone
+judged z j = settled z (j .rows) (j .values) (j .after)
+
+-- the record with the zone that was decided on
+abbrev pub stored : Record → ℕ → Result Zone → Result Record
+stored r n decided = record { number = decided .number; values = decided .values; after = withZone r n (decided .after) }

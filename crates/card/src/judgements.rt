@@ -1,0 +1,74 @@
+// What a call comes to at one present zone: the answer, and the zone afterwards. No record is in sight.
+use crate::answers::Answer;
+use crate::answers::Refusal;
+use zone::Command;
+use zone::Figures;
+use zone::State;
+use zone::Status;
+use zone::Zone;
+use zone::actual_in_range;
+ghost use mathlib.Core.Path.{_≡_};
+ghost use Rattle.card.specs.Answers.{changeSeen};
+ghost use Rattle.card.specs.Calls.{reportAt, writeAt, commandAt, judged};
+
+pub struct Change {
+    pub answer: Answer,
+    pub after: Zone,
+}
+
+// A refusal leaves the zone as it was.
+fn refused(z: Zone, why: Refusal) -> Change
+    ensures { λ r. ⌜ r ≡ record { answer = Answer.Refused why; after = z } ⌝ }
+{
+    Change {
+        answer: Answer::Refused(why),
+        after: z,
+    }
+}
+
+// A report at a zone.
+pub fn reported(z: Zone, state: u32, actual: u32) -> Change
+    ensures { λ r. ⌜ changeSeen r ≡ judged z (reportAt z state actual) ⌝ }
+{
+    if !((state <= 3) & actual_in_range(actual)) {
+        return refused(z, Refusal::OutOfRange);
+    }
+    Change {
+        answer: Answer::Done,
+        after: z.with_status(Status {
+            state: State::numbered(state),
+            actual: actual,
+        }),
+    }
+}
+
+// A command at a zone.
+pub fn commanded(z: Zone, command: Command) -> Change
+    ensures { λ r. ⌜ changeSeen r ≡ judged z (commandAt z command) ⌝ }
+{
+    match command {
+        Command::Read(group) => Change {
+            answer: Answer::Told(z.figures(group)),
+            after: z,
+        },
+        Command::Write(figures) => written(z, figures),
+    }
+}
+
+fn written(z: Zone, figures: Figures) -> Change
+    ensures { λ r. ⌜ changeSeen r ≡ judged z (writeAt z figures) ⌝ }
+{
+    let after = z.with_figures(figures);
+    if !figures.in_range(z.range) {
+        return refused(z, Refusal::OutOfRange);
+    }
+    let status = z.status;
+    let state = status.state;
+    if state.locks(figures.group()) {
+        return refused(z, Refusal::Locked);
+    }
+    Change {
+        answer: Answer::Done,
+        after: after,
+    }
+}

@@ -1,0 +1,218 @@
+// The record, its soundness, the look-up of an address, and the calls.
+use crate::answers::Answer;
+use crate::answers::Refusal;
+use crate::judgements::Change;
+use crate::judgements::commanded;
+use crate::judgements::reported;
+use zone::Command;
+use zone::Zone;
+use zone::address_in_range;
+use zone::range_known;
+ghost use mathlib.Core.Path.{_≡_};
+ghost use Prim.Native.Nat.{_<_};
+ghost use Rattle.zone.specs.Lists.{every, some};
+ghost use Rattle.zone.specs.Zones.{zoneSound, holds};
+ghost use Rattle.card.specs.Answers.{outcomeSeen, changeSeen};
+ghost use Rattle.card.specs.Records.{emptyRecord, differ, sound, findOf, reachOf};
+ghost use Rattle.card.specs.Calls.{addOf, removeOf, reportOf, applyOf, stored};
+
+pub struct Record {
+    pub zones: [Zone; 16],
+}
+
+// Where an address is held.
+pub enum Found {
+    At(usize),
+    Nowhere,
+}
+
+// What stands at a zone number: a present zone of a sound record, or why there is none.
+pub enum Reached {
+    At(Zone),
+    Stopped(Refusal),
+}
+
+pub struct Outcome {
+    pub answer: Answer,
+    pub after: Record,
+}
+
+impl Record {
+    pub fn empty() -> Record
+        ensures { λ r. ⌜ r ≡ emptyRecord ⌝ }
+    {
+        Record {
+            zones: [Zone::empty(); 16],
+        }
+    }
+
+    // Every figure of every present zone lies in its range, addresses differ and absent zones are empty.
+    pub fn is_sound(self) -> bool
+        ensures { λ r. ⌜ r ≡ sound self ⌝ }
+    {
+        self.zones_sound() & self.addresses_differ()
+    }
+
+    fn zones_sound(self) -> bool
+        ensures { λ r. ⌜ r ≡ every zoneSound (self .zones) ⌝ }
+    {
+        let mut ok = true;
+        let mut i: usize = 0;
+        while i < 16 {
+            let z = self.zones[i];
+            ok = ok & z.is_sound();
+            i += 1;
+        }
+        ok
+    }
+
+    fn addresses_differ(self) -> bool
+        ensures { λ r. ⌜ r ≡ differ (self .zones) ⌝ }
+    {
+        let mut ok = true;
+        let mut i: usize = 0;
+        while i < 16 {
+            let z = self.zones[i];
+            let mut held = false;
+            let mut j = i + 1;
+            while j < 16 {
+                let later = self.zones[j];
+                held = held | later.holds(z.address);
+                j += 1;
+            }
+            ok = ok & !(z.present & held);
+            i += 1;
+        }
+        ok
+    }
+
+    // The first zone, from 0 upward, that holds the address.
+    pub fn find(self, address: u32) -> Found
+        ensures { λ r. ⌜ r ≡ findOf self address ⌝ }
+    {
+        let mut i: usize = 0;
+        loop {
+            if 16 <= i {
+                break Found::Nowhere;
+            }
+            let z = self.zones[i];
+            if z.holds(address) {
+                break Found::At(i);
+            }
+            i += 1;
+        }
+    }
+
+    // Some present zone holds the address.
+    fn is_held(self, address: u32) -> bool
+        ensures { λ r. ⌜ r ≡ some (holds address) (self .zones) ⌝ }
+    {
+        match self.find(address) {
+            Found::At(_) => true,
+            Found::Nowhere => false,
+        }
+    }
+
+    // The zone that a call is to work on.
+    pub fn reach(self, zone: usize) -> Reached
+        ensures { λ r. ⌜ r ≡ reachOf self zone ⌝ }
+    {
+        if !self.is_sound() {
+            return Reached::Stopped(Refusal::NotSound);
+        }
+        if 16 <= zone {
+            return Reached::Stopped(Refusal::NoZone);
+        }
+        let z = self.zones[zone];
+        if !z.present {
+            return Reached::Stopped(Refusal::NoZone);
+        }
+        Reached::At(z)
+    }
+
+    // A refusal hands back the record it was given.
+    fn refused(self, why: Refusal) -> Outcome
+        ensures { λ r. ⌜ r ≡ record { answer = Answer.Refused why; after = self } ⌝ }
+    {
+        Outcome {
+            answer: Answer::Refused(why),
+            after: self,
+        }
+    }
+
+    // The one place where a zone of the record is stored to.
+    fn changed(mut self, zone: usize, change: Change) -> Outcome
+        requires { ⌜ zone < 16 ⌝ }
+        ensures { λ r. ⌜ outcomeSeen r ≡ stored self zone (changeSeen change) ⌝ }
+    {
+        let after = change.after;
+        let answer = change.answer;
+        self.zones[zone] = after;
+        Outcome {
+            answer: answer,
+            after: self,
+        }
+    }
+
+    pub fn add(self, zone: usize, address: u32, range: u32) -> Outcome
+        ensures { λ r. ⌜ outcomeSeen r ≡ addOf self zone address range ⌝ }
+    {
+        if !self.is_sound() {
+            return self.refused(Refusal::NotSound);
+        }
+        if 16 <= zone {
+            return self.refused(Refusal::NoZone);
+        }
+        let old = self.zones[zone];
+        if old.present {
+            return self.refused(Refusal::AlreadyPresent);
+        }
+        if !(address_in_range(address) & range_known(range)) {
+            return self.refused(Refusal::OutOfRange);
+        }
+        if self.is_held(address) {
+            return self.refused(Refusal::AddressHeld);
+        }
+        self.changed(
+            zone,
+            Change {
+                answer: Answer::Done,
+                after: Zone::new(address, range),
+            },
+        )
+    }
+
+    pub fn remove(self, zone: usize) -> Outcome
+        ensures { λ r. ⌜ outcomeSeen r ≡ removeOf self zone ⌝ }
+    {
+        match self.reach(zone) {
+            Reached::Stopped(why) => self.refused(why),
+            Reached::At(_) => self.changed(
+                zone,
+                Change {
+                    answer: Answer::Done,
+                    after: Zone::empty(),
+                },
+            ),
+        }
+    }
+
+    pub fn report(self, zone: usize, state: u32, actual: u32) -> Outcome
+        ensures { λ r. ⌜ outcomeSeen r ≡ reportOf self zone state actual ⌝ }
+    {
+        match self.reach(zone) {
+            Reached::Stopped(why) => self.refused(why),
+            Reached::At(z) => self.changed(zone, reported(z, state, actual)),
+        }
+    }
+
+    // A command that came by either road. A read answers with its figures.
+    pub fn apply(self, zone: usize, command: Command) -> Outcome
+        ensures { λ r. ⌜ outcomeSeen r ≡ applyOf self zone command ⌝ }
+    {
+        match self.reach(zone) {
+            Reached::Stopped(why) => self.refused(why),
+            Reached::At(z) => self.changed(zone, commanded(z, command)),
+        }
+    }
+}
