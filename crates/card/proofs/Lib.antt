@@ -1,2 +1,9 @@
 pub mod Scans
 pub mod Steps
+pub mod Rows
+pub mod Stored
+pub mod Kept
+pub mod Sets
+pub mod Found
+pub mod Unique
+pub mod Worked

@@ -3,3 +3,4 @@ pub mod Answers
 pub mod Refusals
 pub mod Records
 pub mod Calls
+pub mod Rules

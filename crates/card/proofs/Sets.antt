@@ -1,0 +1,126 @@
+-- What each done call sets, and what reading gives afterwards. Assumes nothing.
+use Prim.Native.Nat.{ℕ, _<_}
+use mathlib.Core.Path.{_≡_, refl, sym, ap, _∙_}
+use mathlib.Core.Bool.{Bool, true, false, cond, not, _&&_, _||_}
+use mathlib.Core.List.{List, [], _∷_}
+use native.Mathlib.Omega.{arith}
+use lib.ListN.{length, set}
+use lib.Dec.{leb}
+use lib.Seq.{getD-set-same}
+use borrow.Author.Tests.{lt-leb, leb-false, eq-eqb, not-false}
+use Rattle.zone.specs.declared.figures.Group.{Group}
+use Rattle.zone.specs.declared.figures.Figures.{Figures}
+use Rattle.zone.specs.declared.figures.Command.{Command}
+use Rattle.zone.specs.declared.figures.Command.the-variants.{Read, Write}
+use Rattle.zone.specs.declared.zones.Zone.{Zone}
+use Rattle.zone.specs.Lists.{isZero}
+use Rattle.zone.specs.Figures.{groupOf}
+use Rattle.zone.specs.Zones.{newZone, emptyZone, figuresOf, withStatus, withFigures, stateNumbered, addressInRange, rangeKnown}
+use Rattle.zone.specs.Rules.{SetsFigures, SetsStatus}
+use Rattle.zone.proofs.Sound.{Fit, fits}
+use Rattle.zone.proofs.Written.{sets-figures, sets-status}
+use Rattle.card.specs.declared.records.Record.{Record}
+use Rattle.card.specs.Answers.{Result}
+use Rattle.card.specs.Refusals.{Row, first, settled}
+use Rattle.card.specs.Records.{zoneAt, withZone, heldIn, sound, noZone}
+use Rattle.card.specs.Calls.{addRows, addOf, Judgement, zoneRows, atZone, removeAt, removeOf, reportAt, reportOf, commandAt, applyOf}
+use Rattle.card.proofs.Steps.{same-zone}
+use Rattle.card.proofs.Stored.{sound-parts, zone-sound, freed}
+use Rattle.card.proofs.Kept.{AtZone, done-at-zone, remove-apart, report-apart, apply-apart, remove-keeps, apply-keeps}
+use Rattle.card.proofs.Rows.{exactly}
+
+-- ---- once, for every call
+
+stored-there : (r : Record) (n : ℕ) (z : Zone) → sound r ≡ true → n < 16 → zoneAt (withZone r n z) n ≡ z
+stored-there r n z s l = let h = sound-parts r s .sixteen in getD-set-same (r .zones) n z emptyZone (omega arith)
+
+-- a done call hands back the record with the zone that it decided on
+done-after : (r : Record) (n : ℕ) (rows : List Row) (values : List Figures) (z : Zone) → first rows ≡ 0 → settled r rows values (withZone r n z) .after ≡ withZone r n z
+done-after r n rows values z e = rw e
+
+done-zone : (r : Record) (n : ℕ) (j : Judgement) → AtZone r n j → first (zoneRows r n j) ≡ 0 → zoneAt (atZone r n j .after) n ≡ j .after
+done-zone r n j k e = ap (λ (x : Record). zoneAt x n) (done-after r n (zoneRows r n j) (j .values) (j .after) e) ∙ stored-there r n (j .after) (k .sound-record) (k .below)
+
+-- ---- what each call sets
+
+pub add-sets : (r : Record) (n address range : ℕ) → addOf r n address range .number ≡ 0 → zoneAt (addOf r n address range .after) n ≡ newZone address range
+unfolding addOf
+add-sets r n address range e =
+    let passed = exactly (addRows r n address range) refl .done .0 e in
+    ap (λ (x : Record). zoneAt x n) (done-after r n (addRows r n address range) [] (newZone address range) e)
+    ∙ stored-there r n (newZone address range) (not-false (sound r) (passed 0)) (leb-false 16 n (passed 1))
+
+pub remove-sets : (r : Record) (n : ℕ) → removeOf r n .number ≡ 0 → zoneAt (removeOf r n .after) n ≡ emptyZone
+unfolding removeOf
+remove-sets r n e = done-zone r n removeAt (done-at-zone r n removeAt (remove-apart r n) e) e
+
+pub report-sets : (r : Record) (n state actual : ℕ) → reportOf r n state actual .number ≡ 0
+    → SetsStatus (zoneAt r n) (record { state = stateNumbered state; actual = actual }) (zoneAt (reportOf r n state actual .after) n)
+unfolding reportOf
+report-sets r n state actual e =
+    let j = reportAt (zoneAt r n) state actual in
+    rw (done-zone r n j (done-at-zone r n j (report-apart r n state actual) e) e) (sets-status (zoneAt r n) (record { state = stateNumbered state; actual = actual }))
+
+pub write-sets : (r : Record) (n : ℕ) (figures : Figures) → applyOf r n (Write figures) .number ≡ 0 → SetsFigures (zoneAt r n) figures (zoneAt (applyOf r n (Write figures) .after) n)
+unfolding applyOf
+write-sets r n figures e =
+    let j = commandAt (zoneAt r n) (Write figures) in
+    rw (done-zone r n j (done-at-zone r n j (apply-apart r n (Write figures)) e) e) (sets-figures (zoneAt r n) figures)
+
+-- ---- reading
+
+-- "a read alters nothing", whatever it answers
+pub read-alters-nothing : (r : Record) (n : ℕ) (group : Group) → applyOf r n (Read group) .after ≡ r
+unfolding applyOf
+read-alters-nothing r n group = by-done (isZero (first (zoneRows r n (commandAt (zoneAt r n) (Read group)))))
+  where
+    by-done : (done : Bool) → cond done (withZone r n (zoneAt r n)) r ≡ r
+    by-done true = same-zone r n
+    by-done false = refl
+
+-- a present zone of a sound record tells its figures
+pub read-tells : (r : Record) (n : ℕ) (group : Group) → sound r ≡ true → n < 16 → zoneAt r n .present ≡ true
+    → (applyOf r n (Read group) .number ≡ 0) × (applyOf r n (Read group) .values ≡ figuresOf (zoneAt r n) group ∷ [])
+unfolding applyOf
+read-tells r n group s l p = (rw (s, lt-leb 16 n l, p), rw (s, lt-leb 16 n l, p))
+
+-- ---- one call after the other
+
+write-at-zone : (r : Record) (n : ℕ) (figures : Figures) → applyOf r n (Write figures) .number ≡ 0 → AtZone r n (commandAt (zoneAt r n) (Write figures))
+unfolding applyOf
+write-at-zone r n figures e = done-at-zone r n (commandAt (zoneAt r n) (Write figures)) (apply-apart r n (Write figures)) e
+
+-- a done write, to whatever record, is what a read of its group then tells
+pub read-back : (r : Record) (n : ℕ) (figures : Figures) → applyOf r n (Write figures) .number ≡ 0
+    → (applyOf (applyOf r n (Write figures) .after) n (Read (groupOf figures)) .number ≡ 0)
+    × (applyOf (applyOf r n (Write figures) .after) n (Read (groupOf figures)) .values ≡ figures ∷ [])
+read-back r n figures e =
+    let k = write-at-zone r n figures e in
+    let sets = write-sets r n figures e in
+    let told = read-tells (applyOf r n (Write figures) .after) n (groupOf figures) (apply-keeps r n (Write figures) .stays (k .sound-record)) (k .below) (sets .place .present ∙ k .present) in
+    (told .0, rw (sets .itsGroup) at (told .1))
+
+remove-at-zone : (r : Record) (n : ℕ) → removeOf r n .number ≡ 0 → AtZone r n removeAt
+unfolding removeOf
+remove-at-zone r n e = done-at-zone r n removeAt (remove-apart r n) e
+
+remove-after : (r : Record) (n : ℕ) → removeOf r n .number ≡ 0 → removeOf r n .after ≡ withZone r n emptyZone
+unfolding removeOf
+remove-after r n e = done-after r n (zoneRows r n removeAt) [] emptyZone e
+
+add-done : (r : Record) (n address range : ℕ) → sound r ≡ true → n < 16 → zoneAt r n .present ≡ false → addressInRange address ≡ true → rangeKnown range ≡ true → heldIn (r .zones) address ≡ false → addOf r n address range .number ≡ 0
+unfolding addOf
+add-done r n address range s l p a k h = rw (s, lt-leb 16 n l, p, a, k, h)
+
+-- a removed zone may be added again with the address that it had
+pub add-again : (r : Record) (n range : ℕ) → removeOf r n .number ≡ 0 → rangeKnown range ≡ true
+    → (addOf (removeOf r n .after) n (zoneAt r n .address) range .number ≡ 0)
+    × (zoneAt (addOf (removeOf r n .after) n (zoneAt r n .address) range .after) n ≡ newZone (zoneAt r n .address) range)
+add-again r n range e known =
+    let gone = removeOf r n .after in
+    let address = zoneAt r n .address in
+    let k = remove-at-zone r n e in
+    let in-range = fits (zoneAt r n) (k .present) (zone-sound r n (k .sound-record)) .address in
+    let free : heldIn (gone .zones) address ≡ false = rw (remove-after r n e) (freed (r .zones) n (sound-parts r (k .sound-record) .addresses) (k .present)) in
+    let done = add-done gone n address range (remove-keeps r n .stays (k .sound-record)) (k .below) (ap (λ (z : Zone). z .present) (remove-sets r n e)) in-range known free in
+    (done, add-sets gone n address range done)

@@ -1,0 +1,140 @@
+-- Worked calls, computed: what is answered is what document 01 says, in one table for each call. Assumes nothing.
+use Prim.Native.Nat.{ℕ}
+use mathlib.Core.Path.{_≡_, refl}
+use mathlib.Core.Bool.{true, false}
+use mathlib.Core.List.{List, [], _∷_, map}
+use Rattle.zone.specs.declared.figures.Group.the-variants as group
+use Rattle.zone.specs.declared.figures.Figures.{Figures}
+use Rattle.zone.specs.declared.figures.Figures.the-variants.{AhueDeadline, AhueWindow, HzbgLimit, RrueReference, SolwSetpoint}
+use Rattle.zone.specs.declared.figures.Command.{Command}
+use Rattle.zone.specs.declared.figures.Command.the-variants.{Read, Write}
+use Rattle.zone.specs.declared.zones.Watch.the-variants.{Window}
+use Rattle.zone.specs.declared.zones.Zone.{Zone}
+use Rattle.zone.specs.Figures.{inRange, allZero}
+use Rattle.zone.specs.Zones.{newZone, emptyZone, zoneSound, withWatch}
+use Rattle.card.specs.declared.records.Record.{Record}
+use Rattle.card.specs.declared.records.Found.the-variants.{At, Nowhere}
+use Rattle.card.specs.Answers.{Result}
+use Rattle.card.specs.Records.{emptyRecord, zoneAt, withZone, differ, sound, findFrom, findOf}
+use Rattle.card.specs.Calls.{addOf, removeOf, reportOf, applyOf}
+
+-- ---- soundness
+
+new-zone-sound : zoneSound (newZone 33 300) ≡ true
+unfolding zoneSound inRange
+new-zone-sound = refl
+
+empty-record-sound : sound emptyRecord ≡ true
+unfolding sound differ zoneSound allZero
+empty-record-sound = refl
+
+-- zone 5 holds address 33 and has 300 degrees
+start : Record
+unfolding addOf sound differ zoneSound inRange allZero
+start = addOf emptyRecord 5 33 300 .after
+
+-- records that are not sound: an absent zone with a window of zeros, one with a new zone's figures, two zones with one address, a setpoint of 301 in 300 degrees
+unsound : List Record
+unfolding start
+unsound =
+    withZone start 2 (withWatch emptyZone (Window (record { flag = 0; lower = 0; upper = 0; begin = 0; end = 0 })))
+    ∷ withZone start 2 (withWatch emptyZone (newZone 33 300 .watch))
+    ∷ withZone start 2 (newZone 33 500)
+    ∷ withZone start 2 (Rattle.zone.specs.Zones.withFigures (newZone 34 300) (SolwSetpoint (record { setpoint = 301 })))
+    ∷ []
+
+-- one bad zone spoils every call: 2, also where another zone is meant
+spoilt : map (λ r. applyOf r 5 (Read group.Hzbg) .number) unsound ≡ 2 ∷ 2 ∷ 2 ∷ 2 ∷ []
+unfolding unsound start addOf applyOf sound differ zoneSound inRange allZero
+spoilt = refl
+
+-- ---- the calls: what is asked beside the number that is given
+
+record Asked (A : Type 0) : Type 0 where
+  asks : A
+  gives : ℕ
+
+infix 5 _is_
+abbrev _is_ : {A : Type 0} → A → ℕ → Asked A
+asked is number = record { asks = asked; gives = number }
+
+-- zone, address and range
+adding : List (Asked (ℕ × ℕ × ℕ))
+adding =
+    ((6, 34, 500) is 0)
+    ∷ ((15, 254, 300) is 0)
+    ∷ ((16, 34, 300) is 3)
+    ∷ ((65541, 34, 300) is 3)
+    ∷ ((5, 0, 0) is 12)
+    ∷ ((6, 0, 300) is 9)
+    ∷ ((6, 255, 300) is 9)
+    ∷ ((6, 65569, 300) is 9)
+    ∷ ((6, 34, 400) is 9)
+    ∷ ((6, 34, 65836) is 9)
+    ∷ ((6, 33, 400) is 9)
+    ∷ ((6, 33, 500) is 11)
+    ∷ []
+
+added : map (λ a. addOf start (a .asks .0) (a .asks .1) (a .asks .2) .number) adding ≡ map (λ a. a .gives) adding
+unfolding adding start addOf sound differ zoneSound inRange allZero
+added = refl
+
+-- zone
+removing : List (Asked ℕ)
+removing = (5 is 0) ∷ (4 is 3) ∷ (16 is 3) ∷ (65541 is 3) ∷ []
+
+removed : map (λ a. removeOf start (a .asks) .number) removing ≡ map (λ a. a .gives) removing
+unfolding removing start addOf removeOf sound differ zoneSound inRange allZero
+removed = refl
+
+-- zone, state and actual value
+reporting : List (Asked (ℕ × ℕ × ℕ))
+reporting = ((5, 3, 999) is 0) ∷ ((4, 4, 0) is 3) ∷ ((5, 4, 0) is 9) ∷ ((5, 65536, 0) is 9) ∷ ((5, 0, 1000) is 9) ∷ []
+
+reported : map (λ a. reportOf start (a .asks .0) (a .asks .1) (a .asks .2) .number) reporting ≡ map (λ a. a .gives) reporting
+unfolding reporting start addOf reportOf sound differ zoneSound inRange allZero
+reported = refl
+
+deadlineOf : ℕ → ℕ → Figures
+deadlineOf lower upper = AhueDeadline (record { flag = 1; lower = lower; upper = upper; time = 0 })
+
+windowOf : ℕ → ℕ → Figures
+windowOf begin end = AhueWindow (record { flag = 1; lower = 10; upper = 10; begin = begin; end = end })
+
+-- the state that zone 5 is in, and a write to it
+writing : List (Asked (ℕ × Figures))
+unfolding deadlineOf windowOf
+writing =
+    ((0, SolwSetpoint (record { setpoint = 300 })) is 0)
+    ∷ ((0, SolwSetpoint (record { setpoint = 301 })) is 9)
+    ∷ ((1, SolwSetpoint (record { setpoint = 300 })) is 0)
+    ∷ ((0, HzbgLimit (record { time = 999 })) is 0)
+    ∷ ((0, HzbgLimit (record { time = 1000 })) is 9)
+    ∷ ((1, HzbgLimit (record { time = 999 })) is 10)
+    ∷ ((1, HzbgLimit (record { time = 1000 })) is 9)
+    ∷ ((2, HzbgLimit (record { time = 999 })) is 10)
+    ∷ ((3, HzbgLimit (record { time = 999 })) is 0)
+    ∷ ((0, RrueReference (record { flag = 0; lower = 5; upper = 100 })) is 0)
+    ∷ ((0, RrueReference (record { flag = 0; lower = 5; upper = 101 })) is 9)
+    ∷ ((0, RrueReference (record { flag = 2; lower = 5; upper = 100 })) is 9)
+    ∷ ((0, deadlineOf 5 99) is 0)
+    ∷ ((0, deadlineOf 4 99) is 9)
+    ∷ ((0, deadlineOf 5 100) is 9)
+    ∷ ((0, windowOf 998 1) is 0)
+    ∷ ((0, windowOf 999 999) is 9)
+    ∷ ((0, windowOf 0 0) is 9)
+    ∷ []
+
+written : map (λ a. applyOf (reportOf start 5 (a .asks .0) 20 .after) 5 (Write (a .asks .1)) .number) writing ≡ map (λ a. a .gives) writing
+unfolding writing deadlineOf windowOf start addOf reportOf applyOf sound differ zoneSound inRange allZero
+written = refl
+
+-- AHUE is read in the form last written
+last-form : applyOf (applyOf (applyOf start 5 (Write (windowOf 50 20)) .after) 5 (Write (deadlineOf 5 99)) .after) 5 (Read group.Ahue) .values ≡ deadlineOf 5 99 ∷ []
+unfolding deadlineOf windowOf start addOf applyOf sound differ zoneSound inRange allZero
+last-form = refl
+
+-- the address is found at its zone; an absent zone holds none, not even 0
+found : map (findOf start) (33 ∷ 34 ∷ 0 ∷ 65569 ∷ []) ≡ At 5 ∷ Nowhere ∷ Nowhere ∷ Nowhere ∷ []
+unfolding start addOf sound differ zoneSound inRange allZero findFrom
+found = refl
