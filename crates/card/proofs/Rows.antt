@@ -28,12 +28,12 @@ pub record Apart (row : Row) (rows : List Row) : Type 0 where
 
 taken-apart : (row : Row) (rows : List Row) → apart (row ∷ rows) ≡ true → Apart row rows
 taken-apart row rows a =
-    let z : not (isZero (row .number)) ≡ true = search (and-l, and-r) in
+    let z : not (isZero (row .number)) ≡ true = search and-l in
     record { not-zero = not-true (isZero (row .number)) z; is-new = search (and-l, and-r); rest = search (and-l, and-r) }
 
 new-here : (n : ℕ) (row : Row) (rows : List Row) → new n (row ∷ rows) ≡ true → n ≡ row .number → ⊥
 new-here n row rows h =
-    let t : not (eqb n (row .number)) ≡ true = search (and-l, and-r) in
+    let t : not (eqb n (row .number)) ≡ true = search and-l in
     eqb-false n (row .number) (not-true (eqb n (row .number)) t)
 
 new-there : (n : ℕ) (row : Row) (rows : List Row) → new n (row ∷ rows) ≡ true → new n rows ≡ true

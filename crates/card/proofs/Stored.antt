@@ -103,7 +103,7 @@ pub record Sound (r : Record) : Type 0 where
 pub sound-parts : (r : Record) → sound r ≡ true → Sound r
 unfolding sound
 sound-parts r s =
-    let l : eqb (length (r .zones)) 16 ≡ true = search (and-l, and-r) in
+    let l : eqb (length (r .zones)) 16 ≡ true = search and-l in
     record { sixteen = eqb-true (length (r .zones)) 16 l; zones = search (and-l, and-r); addresses = search (and-l, and-r) }
 
 sound-whole : (r : Record) → Sound r → sound r ≡ true

@@ -9,7 +9,7 @@ use zone::Zone;
 use zone::actual_in_range;
 ghost use mathlib.Core.Path.{_≡_};
 ghost use Rattle.card.specs.Answers.{changeSeen};
-ghost use Rattle.card.specs.Calls.{reportAt, writeAt, commandAt, judged};
+ghost use Rattle.card.specs.Calls.{removeAt, reportAt, writeAt, commandAt, judged};
 
 pub struct Change {
     pub answer: Answer,
@@ -26,19 +26,30 @@ fn refused(z: Zone, why: Refusal) -> Change
     }
 }
 
+// A removal at a zone.
+pub fn removed(z: Zone) -> Change
+    ensures { λ r. ⌜ changeSeen r ≡ judged z removeAt ⌝ }
+{
+    Change {
+        answer: Answer::Done,
+        after: z.emptied(),
+    }
+}
+
 // A report at a zone.
 pub fn reported(z: Zone, state: u32, actual: u32) -> Change
     ensures { λ r. ⌜ changeSeen r ≡ judged z (reportAt z state actual) ⌝ }
 {
     if !((state <= 3) & actual_in_range(actual)) {
-        return refused(z, Refusal::OutOfRange);
-    }
-    Change {
-        answer: Answer::Done,
-        after: z.with_status(Status {
-            state: State::numbered(state),
-            actual: actual,
-        }),
+        refused(z, Refusal::OutOfRange)
+    } else {
+        Change {
+            answer: Answer::Done,
+            after: z.with_status(Status {
+                state: State::numbered(state),
+                actual: actual,
+            }),
+        }
     }
 }
 

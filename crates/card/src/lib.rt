@@ -12,6 +12,7 @@ pub use answers::Answer;
 pub use answers::Refusal;
 pub use judgements::Change;
 pub use judgements::commanded;
+pub use judgements::removed;
 pub use judgements::reported;
 pub use records::Found;
 pub use records::Outcome;

@@ -3,6 +3,7 @@ use crate::answers::Answer;
 use crate::answers::Refusal;
 use crate::judgements::Change;
 use crate::judgements::commanded;
+use crate::judgements::removed;
 use crate::judgements::reported;
 use zone::Command;
 use zone::Zone;
@@ -187,13 +188,7 @@ impl Record {
     {
         match self.reach(zone) {
             Reached::Stopped(why) => self.refused(why),
-            Reached::At(_) => self.changed(
-                zone,
-                Change {
-                    answer: Answer::Done,
-                    after: Zone::empty(),
-                },
-            ),
+            Reached::At(z) => self.changed(zone, removed(z)),
         }
     }
 

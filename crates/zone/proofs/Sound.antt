@@ -38,7 +38,7 @@ fits z p s =
       address = search (and-l, and-r);
       range = search (and-l, and-r);
       actual = search (and-l, and-r);
-      ahue = search (and-l, and-r);
+      ahue = search and-l;
       hzbg = search (and-l, and-r);
       rrue = search (and-l, and-r);
       solw = search (and-l, and-r);
@@ -88,7 +88,7 @@ zero n e = eqb-true n 0 e
 watch-zero : (w : Watch) → isDeadline w ≡ true → allZero (watchFigures w) ≡ true → w ≡ emptyZone .watch
 unfolding allZero
 watch-zero (Deadline f) e h =
-    let flag : f .flag ≡ 0 = zero _ (search (and-l, and-r)) in
+    let flag : f .flag ≡ 0 = zero _ (search and-l) in
     let lower : f .lower ≡ 0 = zero _ (search (and-l, and-r)) in
     let upper : f .upper ≡ 0 = zero _ (search (and-l, and-r)) in
     let time : f .time ≡ 0 = zero _ (search (and-l, and-r)) in
@@ -98,11 +98,11 @@ watch-zero (Window f) e h = never e
 settings-zero : (s : Settings) → allZero (HzbgLimit (s .limit)) ≡ true → allZero (RrueReference (s .reference)) ≡ true → allZero (SolwSetpoint (s .setpoint)) ≡ true → s ≡ emptyZone .settings
 unfolding allZero
 settings-zero s l r p =
-    let time : s .limit .time ≡ 0 = zero _ (search (and-l, and-r)) in
-    let flag : s .reference .flag ≡ 0 = zero _ (search (and-l, and-r)) in
+    let time : s .limit .time ≡ 0 = zero _ (search and-l) in
+    let flag : s .reference .flag ≡ 0 = zero _ (search and-l) in
     let lower : s .reference .lower ≡ 0 = zero _ (search (and-l, and-r)) in
     let upper : s .reference .upper ≡ 0 = zero _ (search (and-l, and-r)) in
-    let setpoint : s .setpoint .setpoint ≡ 0 = zero _ (search (and-l, and-r)) in
+    let setpoint : s .setpoint .setpoint ≡ 0 = zero _ (search and-l) in
     λ i. record { limit = record { time = time i }; reference = record { flag = flag i; lower = lower i; upper = upper i }; setpoint = record { setpoint = setpoint i } }
 
 pub absent-empty : (z : Zone) → z .present ≡ false → zoneSound z ≡ true → z ≡ emptyZone
@@ -114,6 +114,6 @@ absent-empty z p s =
     let range : z .range ≡ 0 = zero _ (search (and-l, and-r)) in
     let actual : z .status .actual ≡ 0 = zero _ (search (and-l, and-r)) in
     let state : z .status .state ≡ Off = off _ (search (and-l, and-r)) in
-    let watch = watch-zero (z .watch) (search (and-l, and-r)) (search (and-l, and-r)) in
+    let watch = watch-zero (z .watch) (search and-r) (search and-l) in
     let settings = settings-zero (z .settings) (search (and-l, and-r)) (search (and-l, and-r)) (search (and-l, and-r)) in
     λ i. record { present = p i; address = address i; range = range i; status = record { state = state i; actual = actual i }; watch = watch i; settings = settings i }

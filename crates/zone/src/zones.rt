@@ -127,6 +127,13 @@ impl Zone {
         }
     }
 
+    // The zone as a removal leaves it.
+    pub fn emptied(self) -> Zone
+        ensures { λ r. ⌜ r ≡ emptyZone ⌝ }
+    {
+        Zone::empty()
+    }
+
     // A present zone with that address.
     pub fn holds(self, address: u32) -> bool
         ensures { λ r. ⌜ r ≡ holds address self ⌝ }

@@ -1,6 +1,5 @@
--- Where the zone is reached it is emptied; where not, the call is refused for that reason.
+-- Where the zone is reached it decides, and its decision is stored; where not, the call is refused for that reason.
 use mathlib.Core.Path.{sym, ap, _∙_}
-use Rattle.zone.specs.declared.zones.Zone.{Zone}
 use Rattle.card.specs.Calls.{removeAt, removeOf, stored}
 use Rattle.card.proofs.Steps.{stopped, reaches, at-zone}
 use borrow.Author.Needs.{needs}
@@ -8,15 +7,22 @@ use Rattle.card.proofs.records.Record.remove.Statement.{statement}
 use Rattle.card.proofs.records.Record.remove.Tie as tie
 
 changed-requires : tie.Need-changed-requires
-changed-requires c κs = reaches _ _ _ (sym (c .before .before .before .reach .ensures) ∙ c .before .enum-told .given .1) .below
+changed-requires c κs = reaches _ _ _ (sym (c .before .before .before .before .reach .ensures) ∙ c .before .before .z .given .1) .below
 
 returns : tie.Need-returns
 unfolding removeOf
-returns c = rw (c .refused .ensures) (stopped _ _ _ removeAt (sym (c .before .before .before .before .reach .ensures) ∙ c .before .before .why .given .1))
+returns c =
+    let p = c .before .before .before .before in
+    rw (c .refused .ensures) (stopped _ _ _ removeAt (sym (p .reach .ensures) ∙ c .before .before .why .given .1))
 
 returns-2 : tie.Need-returns-2
 unfolding removeOf
-returns-2 c = c .changed .ensures ∙ rw (c .before .empty .ensures) (at-zone _ _ _ (λ z. removeAt) (sym (c .before .before .before .before .reach .ensures) ∙ c .before .before .enum-told .given .1))
+returns-2 c =
+    let p = c .before .before .before in
+    let a = p .before .before .before .args in
+    c .changed .ensures
+    ∙ ap (stored (a .self) (a .zone)) (c .before .removed .ensures)
+    ∙ at-zone _ _ _ (λ z. removeAt) (sym (p .before .before .reach .ensures) ∙ p .z .given .1)
 
 pub remove-spec : {M : Type 1} → statement M
 remove-spec =
