@@ -1,12 +1,16 @@
 -- What is found is the first zone that holds the address; where nothing is found, no zone holds it. Assumes nothing.
 use Prim.Native.Nat.{ℕ, zero, suc, _+_, _<_}
 use mathlib.Core.Path.{_≡_, refl, sym, ap, _∙_}
+use mathlib.Core.Logic.{_↔_}
 use mathlib.Core.Bool.{Bool, true, false, cond}
 use mathlib.Core.List.{List, [], _∷_}
 use native.Mathlib.Omega.{arith}
 use lib.ListN.{getD}
+use lib.Dec.{ltb}
+use borrow.Author.Tests.{ltb-true, ltb-false}
 use Rattle.zone.specs.declared.zones.Zone.{Zone}
 use Rattle.zone.specs.Zones.{emptyZone, holds}
+use Rattle.zone.proofs.Tests.{never}
 use Rattle.card.specs.declared.records.Record.{Record}
 use Rattle.card.specs.declared.records.Found.{Found}
 use Rattle.card.specs.declared.records.Found.the-variants.{At, Nowhere}
@@ -45,11 +49,34 @@ nowhere-from k (z ∷ zs) a e m = by-first (holds a z) refl e (nowhere-from (suc
     by-first false h e rest zero = h
     by-first false h e rest (suc m) = rest e m
 
-pub found-first : (r : Record) (address n : ℕ) → findOf r address ≡ At n → FirstToHold r address n
-found-first r address n e =
-    let f = found-from 0 (r .zones) address n e in
+is-first : (r : Record) (a n : ℕ) → findOf r a ≡ At n → FirstToHold r a n
+is-first r a n e =
+    let f = found-from 0 (r .zones) a n e in
     let p : n ≡ f .i = omega (arith, f .place) in
     record { here = rw p (f .here); earlier = λ m l. f .earlier m (omega arith) }
 
-pub found-nowhere : (r : Record) (address : ℕ) → findOf r address ≡ Nowhere → (m : ℕ) → holds address (zoneAt r m) ≡ false
-found-nowhere r address e = nowhere-from 0 (r .zones) address e
+none-holds : (r : Record) (a : ℕ) → findOf r a ≡ Nowhere → (m : ℕ) → holds a (zoneAt r m) ≡ false
+none-holds r a e = nowhere-from 0 (r .zones) a e
+
+-- of two first zones neither is before the other
+one-first : (r : Record) (a n k : ℕ) → FirstToHold r a n → FirstToHold r a k → k ≡ n
+one-first r a n k f g = by-order (ltb k n) (ltb n k) refl refl
+  where
+    by-order : (t u : Bool) → ltb k n ≡ t → ltb n k ≡ u → k ≡ n
+    by-order true u e v = never (sym (f .earlier k (ltb-true k n e)) ∙ g .here)
+    by-order false true e v = never (sym (g .earlier n (ltb-true n k v)) ∙ f .here)
+    by-order false false e v = omega (arith, ltb-false k n e, ltb-false n k v)
+
+pub found-first : (r : Record) (address n : ℕ) → (findOf r address ≡ At n) ↔ FirstToHold r address n
+found-first r address n = (is-first r address n, λ f. by-found (findOf r address) refl f)
+  where
+    by-found : (x : Found) → findOf r address ≡ x → FirstToHold r address n → findOf r address ≡ At n
+    by-found (At k) e f = e ∙ ap At (one-first r address n k f (is-first r address k e))
+    by-found Nowhere e f = never (sym (none-holds r address e n) ∙ f .here)
+
+pub found-nowhere : (r : Record) (address : ℕ) → (findOf r address ≡ Nowhere) ↔ ((m : ℕ) → holds address (zoneAt r m) ≡ false)
+found-nowhere r address = (none-holds r address, λ h. by-found (findOf r address) refl h)
+  where
+    by-found : (x : Found) → findOf r address ≡ x → ((m : ℕ) → holds address (zoneAt r m) ≡ false) → findOf r address ≡ Nowhere
+    by-found (At k) e h = never (sym (h k) ∙ is-first r address k e .here)
+    by-found Nowhere e h = e

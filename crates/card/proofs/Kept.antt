@@ -1,27 +1,25 @@
 -- What every call keeps, and when it gives each number: proved once, of a list of refusals over one stored zone, and cited for each call. Assumes nothing.
 use Prim.Native.Nat.{ℕ, suc, _<_}
-use mathlib.Core.Path.{_≡_, refl, sym, ap, _∙_}
-use mathlib.Core.Bool.{Bool, true, false, cond, not, _&&_, _||_}
+use mathlib.Core.Path.{_≡_, refl}
+use mathlib.Core.Bool.{Bool, true, false, cond, not, _&&_}
 use mathlib.Core.List.{List, [], _∷_}
 use lib.Dec.{leb}
 use lib.Seq.{getD-set-other}
-use borrow.Author.Tests.{eq-eqb, ne-eqb, leb-false, not-false}
+use borrow.Author.Tests.{ne-eqb, leb-false, not-false}
 use Rattle.zone.specs.declared.figures.Figures.{Figures}
 use Rattle.zone.specs.declared.figures.Command.{Command}
 use Rattle.zone.specs.declared.figures.Command.the-variants.{Read, Write}
-use Rattle.zone.specs.declared.status.Status.{Status}
 use Rattle.zone.specs.declared.zones.Zone.{Zone}
 use Rattle.zone.specs.Lists.{isZero}
-use Rattle.zone.specs.Figures.{groupOf, inRange}
-use Rattle.zone.specs.Zones.{newZone, emptyZone, figuresOf, withStatus, withFigures, stateNumbered, addressInRange, rangeKnown, actualInRange, zoneSound}
+use Rattle.zone.specs.Figures.{inRange}
+use Rattle.zone.specs.Zones.{newZone, emptyZone, figuresOf, stateNumbered, addressInRange, rangeKnown, actualInRange}
 use Rattle.zone.proofs.Tests.{both, neither}
 use Rattle.zone.proofs.Sound.{empty-sound, new-sound, status-sound, figures-sound}
 use Rattle.zone.proofs.Written.{sets-figures}
 use Rattle.card.specs.declared.records.Record.{Record}
-use Rattle.card.specs.Answers.{Result}
 use Rattle.card.specs.Refusals.{Row, first, settled}
-use Rattle.card.specs.Records.{zoneAt, withZone, heldIn, sound, noZone}
-use Rattle.card.specs.Calls.{addRows, addOf, Judgement, zoneRows, atZone, removeAt, removeOf, reportAt, reportOf, commandAt, applyOf}
+use Rattle.card.specs.Records.{zoneAt, withZone, sound}
+use Rattle.card.specs.Calls.{addRows, addOf, Judgement, zoneRows, removeAt, removeOf, reportAt, reportOf, commandAt, applyOf}
 use Rattle.card.specs.Rules.{Keeps, ExactlyWhen, rowAt}
 use Rattle.card.proofs.Rows.{apart, exactly}
 use Rattle.card.proofs.Steps.{same-zone}
@@ -129,5 +127,5 @@ apply-keeps r n (Write figures) =
     let k = done-at-zone r n j (apply-apart r n (Write figures)) e in
     stored-same r n (j .after) s
     (figures-sound (zoneAt r n) figures (k .present) (zone-sound r n s) (not-false (inRange (zoneAt r n .range) figures) (k .own 0)))
-    (sets .place .present)
-    (sets .place .address))
+    (sets .head .present)
+    (sets .head .address))

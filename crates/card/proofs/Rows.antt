@@ -1,12 +1,13 @@
 -- A list of refusals gives each number exactly when its row holds and no earlier one does. Assumes nothing.
 use Prim.Native.Nat.{ℕ, zero, suc, _<_}
-use mathlib.Core.Path.{_≡_, refl, sym, ap, _∙_}
+use mathlib.Core.Path.{_≡_, refl, sym}
+use mathlib.Core.Logic.{_⊎_, inl, inr}
 use mathlib.Core.Bool.{Bool, true, false, cond, not, _&&_}
 use mathlib.Core.List.{List, [], _∷_}
 use native.Mathlib.Omega.{arith}
 use lib.ListN.{length}
 use lib.Dec.{eqb}
-use borrow.Author.Tests.{eqb-false, eq-eqb, not-true}
+use borrow.Author.Tests.{eqb-false, not-true}
 use Rattle.zone.specs.Lists.{isZero, every}
 use Rattle.zone.proofs.Tests.{and-l, and-r}
 use Rattle.card.specs.Refusals.{Row, first}
@@ -98,5 +99,15 @@ done : (rows : List Row) → ((j : ℕ) → rowAt rows j .test ≡ false) → fi
 done [] h = refl
 done (row ∷ rows) h = rw (h 0) (done rows (λ j. h (suc j)))
 
+only : (rows : List Row) → (first rows ≡ 0) ⊎ ((i : ℕ) × (i < length rows) × (first rows ≡ rowAt rows i .number))
+only [] = inl refl
+only (row ∷ rows) = by-test (row .test) (only rows)
+  where
+    by-test : (t : Bool) → (first rows ≡ 0) ⊎ ((i : ℕ) × (i < length rows) × (first rows ≡ rowAt rows i .number))
+        → (cond t (row .number) (first rows) ≡ 0) ⊎ ((i : ℕ) × (i < suc (length rows)) × (cond t (row .number) (first rows) ≡ rowAt (row ∷ rows) i .number))
+    by-test true rest = inr (0, omega arith, refl)
+    by-test false (inl e) = inl e
+    by-test false (inr k) = inr (suc (k .0), omega (arith, k .1), k .2)
+
 pub exactly : (rows : List Row) → apart rows ≡ true → ExactlyWhen rows (first rows)
-exactly rows a = record { refused = λ i l. (chosen rows a i l, given rows i l); done = (none rows a, done rows) }
+exactly rows a = record { refused = λ i l. (chosen rows a i l, given rows i l); done = (none rows a, done rows); only = only rows }

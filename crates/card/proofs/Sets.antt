@@ -1,29 +1,26 @@
 -- What each done call sets, and what reading gives afterwards. Assumes nothing.
 use Prim.Native.Nat.{ℕ, _<_}
-use mathlib.Core.Path.{_≡_, refl, sym, ap, _∙_}
-use mathlib.Core.Bool.{Bool, true, false, cond, not, _&&_, _||_}
+use mathlib.Core.Path.{_≡_, refl, ap, _∙_}
+use mathlib.Core.Bool.{Bool, true, false, cond}
 use mathlib.Core.List.{List, [], _∷_}
 use native.Mathlib.Omega.{arith}
-use lib.ListN.{length, set}
-use lib.Dec.{leb}
 use lib.Seq.{getD-set-same}
-use borrow.Author.Tests.{lt-leb, leb-false, eq-eqb, not-false}
+use borrow.Author.Tests.{lt-leb, leb-false, not-false}
 use Rattle.zone.specs.declared.figures.Group.{Group}
 use Rattle.zone.specs.declared.figures.Figures.{Figures}
-use Rattle.zone.specs.declared.figures.Command.{Command}
 use Rattle.zone.specs.declared.figures.Command.the-variants.{Read, Write}
 use Rattle.zone.specs.declared.zones.Zone.{Zone}
 use Rattle.zone.specs.Lists.{isZero}
 use Rattle.zone.specs.Figures.{groupOf}
-use Rattle.zone.specs.Zones.{newZone, emptyZone, figuresOf, withStatus, withFigures, stateNumbered, addressInRange, rangeKnown}
+use Rattle.zone.specs.Zones.{newZone, emptyZone, figuresOf, stateNumbered, addressInRange, rangeKnown}
 use Rattle.zone.specs.Rules.{SetsFigures, SetsStatus}
-use Rattle.zone.proofs.Sound.{Fit, fits}
+use Rattle.zone.proofs.Sound.{fits}
 use Rattle.zone.proofs.Written.{sets-figures, sets-status}
 use Rattle.card.specs.declared.records.Record.{Record}
-use Rattle.card.specs.Answers.{Result}
 use Rattle.card.specs.Refusals.{Row, first, settled}
-use Rattle.card.specs.Records.{zoneAt, withZone, heldIn, sound, noZone}
+use Rattle.card.specs.Records.{zoneAt, withZone, heldIn, sound}
 use Rattle.card.specs.Calls.{addRows, addOf, Judgement, zoneRows, atZone, removeAt, removeOf, reportAt, reportOf, commandAt, applyOf}
+use Rattle.card.specs.Rules.{Frees}
 use Rattle.card.proofs.Steps.{same-zone}
 use Rattle.card.proofs.Stored.{sound-parts, zone-sound, freed}
 use Rattle.card.proofs.Kept.{AtZone, done-at-zone, remove-apart, report-apart, apply-apart, remove-keeps, apply-keeps}
@@ -90,14 +87,14 @@ write-at-zone : (r : Record) (n : ℕ) (figures : Figures) → applyOf r n (Writ
 unfolding applyOf
 write-at-zone r n figures e = done-at-zone r n (commandAt (zoneAt r n) (Write figures)) (apply-apart r n (Write figures)) e
 
--- a done write, to whatever record, is what a read of its group then tells
+-- a done write, to whatever record, is what a read of its group then tells: so "AHUE is read in the form last written"
 pub read-back : (r : Record) (n : ℕ) (figures : Figures) → applyOf r n (Write figures) .number ≡ 0
     → (applyOf (applyOf r n (Write figures) .after) n (Read (groupOf figures)) .number ≡ 0)
     × (applyOf (applyOf r n (Write figures) .after) n (Read (groupOf figures)) .values ≡ figures ∷ [])
 read-back r n figures e =
     let k = write-at-zone r n figures e in
     let sets = write-sets r n figures e in
-    let told = read-tells (applyOf r n (Write figures) .after) n (groupOf figures) (apply-keeps r n (Write figures) .stays (k .sound-record)) (k .below) (sets .place .present ∙ k .present) in
+    let told = read-tells (applyOf r n (Write figures) .after) n (groupOf figures) (apply-keeps r n (Write figures) .stays (k .sound-record)) (k .below) (sets .head .present ∙ k .present) in
     (told .0, rw (sets .itsGroup) at (told .1))
 
 remove-at-zone : (r : Record) (n : ℕ) → removeOf r n .number ≡ 0 → AtZone r n removeAt
@@ -112,15 +109,26 @@ add-done : (r : Record) (n address range : ℕ) → sound r ≡ true → n < 16 
 unfolding addOf
 add-done r n address range s l p a k h = rw (s, lt-leb 16 n l, p, a, k, h)
 
--- a removed zone may be added again with the address that it had
+-- what a removal sets free
+pub remove-frees : (r : Record) (n : ℕ) → removeOf r n .number ≡ 0 → Frees r n (removeOf r n .after)
+remove-frees r n e =
+    let gone = removeOf r n .after in
+    let address = zoneAt r n .address in
+    let k = remove-at-zone r n e in
+    let s = remove-keeps r n .stays (k .sound-record) in
+    let in-range = fits (zoneAt r n) (k .present) (zone-sound r n (k .sound-record)) .address in
+    let free : heldIn (gone .zones) address ≡ false = rw (remove-after r n e) (freed (r .zones) n (sound-parts r (k .sound-record) .addresses) (k .present)) in
+    record {
+      zone = remove-sets r n e;
+      number = λ a range i d h. add-done gone n a range s (k .below) (ap (λ (z : Zone). z .present) (remove-sets r n e)) i d h;
+      address = λ m range l p d. add-done gone m address range s l p in-range d free;
+    }
+
+-- a removed zone may be added again with the address that it had, and is then the new zone
 pub add-again : (r : Record) (n range : ℕ) → removeOf r n .number ≡ 0 → rangeKnown range ≡ true
     → (addOf (removeOf r n .after) n (zoneAt r n .address) range .number ≡ 0)
     × (zoneAt (addOf (removeOf r n .after) n (zoneAt r n .address) range .after) n ≡ newZone (zoneAt r n .address) range)
 add-again r n range e known =
-    let gone = removeOf r n .after in
-    let address = zoneAt r n .address in
-    let k = remove-at-zone r n e in
-    let in-range = fits (zoneAt r n) (k .present) (zone-sound r n (k .sound-record)) .address in
-    let free : heldIn (gone .zones) address ≡ false = rw (remove-after r n e) (freed (r .zones) n (sound-parts r (k .sound-record) .addresses) (k .present)) in
-    let done = add-done gone n address range (remove-keeps r n .stays (k .sound-record)) (k .below) (ap (λ (z : Zone). z .present) (remove-sets r n e)) in-range known free in
-    (done, add-sets gone n address range done)
+    let frees = remove-frees r n e in
+    let done = frees .address n range (remove-at-zone r n e .below) (ap (λ (z : Zone). z .present) (frees .zone)) known in
+    (done, add-sets (removeOf r n .after) n (zoneAt r n .address) range done)

@@ -1,7 +1,7 @@
 -- How a call at a zone comes to the definition's result. Assumes nothing.
 use Prim.Native.Nat.{ℕ, _<_}
-use mathlib.Core.Path.{_≡_, refl, sym, ap, _∙_}
-use mathlib.Core.Bool.{Bool, true, false, cond, not, _||_}
+use mathlib.Core.Path.{_≡_, refl, ap}
+use mathlib.Core.Bool.{Bool, true, false, cond, not}
 use mathlib.Core.List.{List, [], _∷_}
 use native.Mathlib.Omega.{arith}
 use lib.Seq.{set-getD}
@@ -19,8 +19,9 @@ use Rattle.card.specs.declared.records.Reached.the-variants.{At, Stopped
 use Rattle.card.specs.declared.records.Record.{Record}
 use Rattle.card.specs.Answers.{Result, refusalNumber}
 use Rattle.card.specs.Refusals.{Row, first, settled, _gives_}
-use Rattle.card.specs.Records.{zoneAt, withZone, sound, noZone, reachOf}
-use Rattle.card.specs.Calls.{Judgement, atZone, judged, stored}
+use Rattle.card.specs.Records.{zoneAt, withZone, sound, noZone}
+use Rattle.card.specs.Calls.{Judgement, atZone}
+use Rattle.card.specs.Steps.{reachOf, judged, stored}
 
 -- to store the zone that stands there already is to store nothing
 pub same-zone : (r : Record) (n : ℕ) → withZone r n (zoneAt r n) ≡ r

@@ -1,13 +1,13 @@
 -- A sound record in which one zone was stored: when it is sound still. Assumes nothing.
-use Prim.Native.Nat.{ℕ, zero, suc, _<_}
-use mathlib.Core.Path.{_≡_, refl, sym, ap, _∙_}
+use Prim.Native.Nat.{ℕ, zero, suc}
+use mathlib.Core.Path.{_≡_, refl, sym, _∙_}
 use mathlib.Core.Bool.{Bool, true, false, not, _&&_, _||_}
 use mathlib.Core.List.{List, [], _∷_}
 use lib.ListN.{length, getD, set, length-set}
 use lib.Dec.{eqb}
 use borrow.Author.Tests.{eqb-true, eq-eqb, not-true}
 use Rattle.zone.specs.declared.zones.Zone.{Zone}
-use Rattle.zone.specs.Lists.{every, some}
+use Rattle.zone.specs.Lists.{every}
 use Rattle.zone.specs.Zones.{emptyZone, zoneSound, holds}
 use Rattle.zone.proofs.Tests.{never, and-l, and-r, both, neither, eqb-sym}
 use Rattle.zone.proofs.Sound.{empty-sound}

@@ -2,11 +2,10 @@
 use Prim.Native.Nat.{ℕ}
 use mathlib.Core.Path.{_≡_, refl, sym, ap, _∙_}
 use mathlib.Core.Bool.{Bool}
-use mathlib.Core.List.{List, [], _∷_}
+use mathlib.Core.List.{[], _∷_}
 use native.Mathlib.Omega.{arith}
 use lib.ListN.{getD}
 use Rattle.zone.specs.declared.figures.Command.{Command}
-use Rattle.zone.specs.declared.figures.Figures.{Figures}
 use Rattle.card.specs.declared.answers.Refusal.{Refusal}
 use Rattle.card.specs.declared.answers.Refusal.the-variants.{NoRoom, NotSound, NoZone, NoFrame, NobodyHolds, Checksum, Unknown, Syntax, OutOfRange, Locked, AddressHeld, AlreadyPresent, Unreadable}
 use Rattle.card.specs.declared.answers.Answer.{Answer}

@@ -1,21 +1,18 @@
 -- Worked calls, computed: what is answered is what document 01 says, in one table for each call. Assumes nothing.
 use Prim.Native.Nat.{ℕ}
 use mathlib.Core.Path.{_≡_, refl}
-use mathlib.Core.Bool.{true, false}
+use mathlib.Core.Bool.{true}
 use mathlib.Core.List.{List, [], _∷_, map}
 use Rattle.zone.specs.declared.figures.Group.the-variants as group
 use Rattle.zone.specs.declared.figures.Figures.{Figures}
 use Rattle.zone.specs.declared.figures.Figures.the-variants.{AhueDeadline, AhueWindow, HzbgLimit, RrueReference, SolwSetpoint}
-use Rattle.zone.specs.declared.figures.Command.{Command}
 use Rattle.zone.specs.declared.figures.Command.the-variants.{Read, Write}
 use Rattle.zone.specs.declared.zones.Watch.the-variants.{Window}
-use Rattle.zone.specs.declared.zones.Zone.{Zone}
 use Rattle.zone.specs.Figures.{inRange, allZero}
 use Rattle.zone.specs.Zones.{newZone, emptyZone, zoneSound, withWatch}
 use Rattle.card.specs.declared.records.Record.{Record}
 use Rattle.card.specs.declared.records.Found.the-variants.{At, Nowhere}
-use Rattle.card.specs.Answers.{Result}
-use Rattle.card.specs.Records.{emptyRecord, zoneAt, withZone, differ, sound, findFrom, findOf}
+use Rattle.card.specs.Records.{emptyRecord, withZone, differ, sound, findFrom, findOf}
 use Rattle.card.specs.Calls.{addOf, removeOf, reportOf, applyOf}
 
 -- ---- soundness

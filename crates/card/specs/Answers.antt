@@ -2,12 +2,10 @@
 use Prim.Native.Nat.{ℕ}
 use mathlib.Core.List.{List, [], _∷_}
 use Rattle.zone.specs.declared.figures.Figures.{Figures}
-use Rattle.zone.specs.declared.zones.Zone.{Zone}
 use Rattle.card.specs.declared.answers.Refusal.{Refusal}
 use Rattle.card.specs.declared.answers.Refusal.the-variants.{NoRoom, NotSound, NoZone, NoFrame, NobodyHolds, Checksum, Unknown, Syntax, OutOfRange, Locked, AddressHeld, AlreadyPresent, Unreadable}
 use Rattle.card.specs.declared.answers.Answer.{Answer}
 use Rattle.card.specs.declared.answers.Answer.the-variants.{Done, Told, Refused}
-use Rattle.card.specs.declared.judgements.Change.{Change}
 use Rattle.card.specs.declared.records.Record.{Record}
 use Rattle.card.specs.declared.records.Outcome.{Outcome}
 
@@ -51,14 +49,12 @@ valuesOf Done = []
 valuesOf (Told figures) = figures ∷ []
 valuesOf (Refused why) = []
 
--- what a call comes to: its number, the values beside it, and the record (or the one zone) afterwards
+-- what a call comes to, in the paper's terms: its number, the values beside it, and what is handed back (A is the record)
 pub record Result (A : Type 0) : Type 0 where
   pub number : ℕ
   pub values : List Figures
   pub after : A
 
+-- what is seen of the outcome that the code hands back
 abbrev pub outcomeSeen : Outcome → Result Record
 outcomeSeen o = record { number = numberOf (o .answer); values = valuesOf (o .answer); after = o .after }
-
-abbrev pub changeSeen : Change → Result Zone
-changeSeen c = record { number = numberOf (c .answer); values = valuesOf (c .answer); after = c .after }

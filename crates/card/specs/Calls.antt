@@ -1,6 +1,6 @@
 -- What each call comes to, for every record, sound or not. Its refusals stand in document 01's order.
 use Prim.Native.Nat.{ℕ}
-use mathlib.Core.Bool.{Bool, not, _&&_}
+use mathlib.Core.Bool.{not, _&&_}
 use mathlib.Core.List.{List, [], _∷_}
 use lib.Dec.{leb}
 use Rattle.zone.specs.declared.figures.Figures.{Figures}
@@ -14,7 +14,7 @@ use Rattle.card.specs.Answers.{Result}
 use Rattle.card.specs.Refusals.{Row, _gives_, settled}
 use Rattle.card.specs.Records.{zoneAt, withZone, heldIn, sound, noZone}
 
--- "Adding a zone (zone, address, range): 2, 3, 12, 9, 11"
+-- "Adding a zone (zone, address, range): 2, 3, 12, 9, 11"; 3 is "for adding: above 15 only", 9 "for an address outside 1..254 or a range other than 300 and 500"
 abbrev pub addRows : Record → ℕ → ℕ → ℕ → List Row
 addRows r n address range =
     (not (sound r) gives 2)
@@ -29,12 +29,13 @@ addOf r n address range = settled r (addRows r n address range) [] (withZone r n
 
 -- ---- calls at a present zone: 2, 3, and then what the zone itself decides
 
--- the zone's own refusals; where none applies, the values that are told and the zone afterwards
+-- what a present zone decides of a call: its own refusals and, where none applies, the values that are told and the zone afterwards
 pub record Judgement : Type 0 where
   pub rows : List Row
   pub values : List Figures
   pub after : Zone
 
+-- "record not sound"; "zone above 15, or absent"; and the zone's own
 abbrev pub zoneRows : Record → ℕ → Judgement → List Row
 zoneRows r n j = (not (sound r) gives 2) ∷ (noZone r n gives 3) ∷ j .rows
 
@@ -48,7 +49,7 @@ removeAt = record { rows = []; values = []; after = emptyZone }
 unfoldable pub removeOf : Record → ℕ → Result Record
 removeOf r n = atZone r n removeAt
 
--- "Reporting state and actual value: 2, 3, 9"; "9 .. for a state number above 3 or an actual value above 999"
+-- "Reporting state and actual value: 2, 3, 9"; 9 "for a state number above 3 or an actual value above 999"
 abbrev pub reportAt : Zone → ℕ → ℕ → Judgement
 reportAt z state actual = record {
   rows = (not (leb state 3 && actualInRange actual) gives 9) ∷ [];
@@ -59,7 +60,7 @@ reportAt z state actual = record {
 unfoldable pub reportOf : Record → ℕ → ℕ → ℕ → Result Record
 reportOf r n state actual = atZone r n (reportAt (zoneAt r n) state actual)
 
--- a write: 2, 3, 9, 10
+-- a write: 2, 3, 9, 10, which is what "Text: 1, 2, 3, 7, 8, 9, 10" leaves where the command is known
 abbrev pub writeAt : Zone → Figures → Judgement
 writeAt z figures = record {
   rows = (not (inRange (z .range) figures) gives 9) ∷ (locks (z .status .state) (groupOf figures) gives 10) ∷ [];
@@ -74,13 +75,3 @@ commandAt z (Write figures) = writeAt z figures
 
 unfoldable pub applyOf : Record → ℕ → Command → Result Record
 applyOf r n command = atZone r n (commandAt (zoneAt r n) command)
-
--- ---- the steps that the calls are made of
-
--- what one present zone decides
-abbrev pub judged : Zone → Judgement → Result Zone
-judged z j = settled z (j .rows) (j .values) (j .after)
-
--- the record with the zone that was decided on
-abbrev pub stored : Record → ℕ → Result Zone → Result Record
-stored r n decided = record { number = decided .number; values = decided .values; after = withZone r n (decided .after) }

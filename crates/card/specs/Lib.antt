@@ -1,6 +1,8 @@
--- The record and the calls on it, in document 01's words. Start with Answers, then Records and Calls.
+-- The record and the calls on it, in document 01's words. Start with Answers, then Refusals, Records, Calls and Rules.
+-- The types (Refusal, Answer, Record, Outcome, Found) are those of the code: src/answers.rt and src/records.rt.
 pub mod Answers
 pub mod Refusals
 pub mod Records
 pub mod Calls
 pub mod Rules
+pub mod Steps

@@ -1,20 +1,17 @@
 -- The record: its sixteen zones, when it is sound, and where an address is held.
 use Prim.Native.Nat.{ℕ, suc}
-use mathlib.Core.Bool.{Bool, true, false, cond, not, _&&_, _||_}
+use mathlib.Core.Bool.{Bool, true, cond, not, _&&_, _||_}
 use mathlib.Core.List.{List, [], _∷_}
 use lib.ListN.{length, getD, set, replicate}
 use lib.Dec.{leb, eqb}
 use Rattle.zone.specs.declared.zones.Zone.{Zone}
 use Rattle.zone.specs.Lists.{every, some}
 use Rattle.zone.specs.Zones.{emptyZone, zoneSound, holds}
-use Rattle.card.specs.declared.answers.Refusal.the-variants.{NotSound, NoZone}
 use Rattle.card.specs.declared.records.Record.{Record}
 use Rattle.card.specs.declared.records.Found.{Found}
-use Rattle.card.specs.declared.records.Found.the-variants as found
-use Rattle.card.specs.declared.records.Reached.{Reached}
-use Rattle.card.specs.declared.records.Reached.the-variants as reached
+use Rattle.card.specs.declared.records.Found.the-variants.{At, Nowhere}
 
--- "A record has sixteen zones, numbered 0 to 15"
+-- sixteen times the empty zone
 abbrev pub emptyRecord : Record
 emptyRecord = record { zones = replicate 16 emptyZone }
 
@@ -35,14 +32,18 @@ unfoldable pub differ : List Zone → Bool
 differ [] = true
 differ (z ∷ zones) = not (z .present && heldIn zones (z .address)) && differ zones
 
+-- "A record has sixteen zones, numbered 0 to 15" (the code's type has just these; a list might have others)
+abbrev pub sixteen : Record → Bool
+sixteen r = eqb (length (r .zones)) 16
+
 -- "A record is sound if every figure of every present zone lies in its range, addresses differ and absent zones are empty"
 unfoldable pub sound : Record → Bool
-sound r = eqb (length (r .zones)) 16 && (every zoneSound (r .zones) && differ (r .zones))
+sound r = sixteen r && (every zoneSound (r .zones) && differ (r .zones))
 
 -- "An address is looked up from zone 0 upward; the search ends at the first zone that holds it"
 unfoldable pub findFrom : ℕ → List Zone → ℕ → Found
-findFrom n [] address = found.Nowhere
-findFrom n (z ∷ zones) address = cond (holds address z) (found.At n) (findFrom (suc n) zones address)
+findFrom n [] address = Nowhere
+findFrom n (z ∷ zones) address = cond (holds address z) (At n) (findFrom (suc n) zones address)
 
 abbrev pub findOf : Record → ℕ → Found
 findOf r address = findFrom 0 (r .zones) address
@@ -50,7 +51,3 @@ findOf r address = findFrom 0 (r .zones) address
 -- "zone above 15, or absent"
 abbrev pub noZone : Record → ℕ → Bool
 noZone r n = leb 16 n || not (zoneAt r n .present)
-
--- the zone that a call is to work on, or why there is none
-unfoldable pub reachOf : Record → ℕ → Reached
-reachOf r n = cond (not (sound r)) (reached.Stopped NotSound) (cond (noZone r n) (reached.Stopped NoZone) (reached.At (zoneAt r n)))

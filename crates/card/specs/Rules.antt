@@ -1,22 +1,23 @@
--- Document 01's rules of what a call keeps and sets, and of when each number is given, as statements about its result. They are proved in proofs/.
+-- Document 01's rules as statements about a call's result. Above each stands where it is proved, for every record and all arguments.
 use Prim.Native.Nat.{ℕ, _<_}
 use mathlib.Core.Path.{_≡_}
-use mathlib.Core.Logic.{_↔_}
+use mathlib.Core.Logic.{_↔_, _⊎_}
 use mathlib.Core.Bool.{true, false}
-use mathlib.Core.List.{List, [], _∷_}
+use mathlib.Core.List.{List, []}
 use lib.ListN.{length, getD}
-use Rattle.zone.specs.declared.zones.Zone.{Zone}
-use Rattle.zone.specs.Zones.{holds}
+use Rattle.zone.specs.Zones.{emptyZone, addressInRange, rangeKnown, holds}
 use Rattle.card.specs.declared.records.Record.{Record}
 use Rattle.card.specs.Answers.{Result}
 use Rattle.card.specs.Refusals.{Row, _gives_}
-use Rattle.card.specs.Records.{zoneAt, sound}
+use Rattle.card.specs.Records.{zoneAt, heldIn, sound}
+use Rattle.card.specs.Calls.{addOf}
 
--- what every call on zone n of r keeps, whatever it answers
+-- What every call on zone n of r keeps, whatever it answers.
+-- add-keeps, remove-keeps, report-keeps and apply-keeps, in proofs/Kept.antt
 pub record Keeps (r : Record) (n : ℕ) (o : Result Record) : Type 0 where
   -- "Every refusal hands back the record it was given", and tells nothing
   pub refusal : (o .number ≡ 0 → ⊥) → (o .after ≡ r) × (o .values ≡ [])
-  -- no other zone is touched
+  -- "Adding and removing touch no other zone"; a report and a write set what they set "in its zone"
   pub others : (m : ℕ) → (m ≡ n → ⊥) → zoneAt (o .after) m ≡ zoneAt r m
   -- a sound record stays sound
   pub stays : sound r ≡ true → sound (o .after) ≡ true
@@ -25,12 +26,27 @@ pub record Keeps (r : Record) (n : ℕ) (o : Result Record) : Type 0 where
 abbrev pub rowAt : List Row → ℕ → Row
 rowAt rows i = getD rows i (false gives 0)
 
--- "Given exactly when": a row's number is given if and only if its test holds and no earlier one does; done, if none holds
+-- "Given exactly when".
+-- add-exactly, remove-exactly, report-exactly and apply-exactly, in proofs/Kept.antt
 pub record ExactlyWhen (rows : List Row) (number : ℕ) : Type 0 where
+  -- a row's number is given if and only if its test holds and no earlier one does
   pub refused : (i : ℕ) → i < length rows → (number ≡ rowAt rows i .number) ↔ ((rowAt rows i .test ≡ true) × ((j : ℕ) → j < i → rowAt rows j .test ≡ false))
+  -- the call is done if and only if no test holds
   pub done : (number ≡ 0) ↔ ((j : ℕ) → rowAt rows j .test ≡ false)
+  -- no other number is given
+  pub only : (number ≡ 0) ⊎ ((i : ℕ) × (i < length rows) × (number ≡ rowAt rows i .number))
 
--- "the search ends at the first zone that holds it"
+-- "Removing empties the zone; its number and address may be used again".
+-- remove-frees, in proofs/Sets.antt: of the record after zone n of r was removed
+pub record Frees (r : Record) (n : ℕ) (after : Record) : Type 0 where
+  pub zone : zoneAt after n ≡ emptyZone
+  -- the number, with any address that is free
+  pub number : (address range : ℕ) → addressInRange address ≡ true → rangeKnown range ≡ true → heldIn (after .zones) address ≡ false → addOf after n address range .number ≡ 0
+  -- the address, at any zone that is absent, that of old among them
+  pub address : (m range : ℕ) → m < 16 → zoneAt after m .present ≡ false → rangeKnown range ≡ true → addOf after m (zoneAt r n .address) range .number ≡ 0
+
+-- "the search ends at the first zone that holds it".
+-- found-first and found-nowhere, in proofs/Found.antt: find answers zone n if and only if this holds, and none if and only if no zone holds the address
 pub record FirstToHold (r : Record) (address n : ℕ) : Type 0 where
   pub here : holds address (zoneAt r n) ≡ true
   pub earlier : (m : ℕ) → m < n → holds address (zoneAt r m) ≡ false

@@ -8,8 +8,8 @@ use zone::Status;
 use zone::Zone;
 use zone::actual_in_range;
 ghost use mathlib.Core.Path.{_≡_};
-ghost use Rattle.card.specs.Answers.{changeSeen};
-ghost use Rattle.card.specs.Calls.{removeAt, reportAt, writeAt, commandAt, judged};
+ghost use Rattle.card.specs.Calls.{removeAt, reportAt, writeAt, commandAt};
+ghost use Rattle.card.specs.Steps.{changeSeen, judged};
 
 pub struct Change {
     pub answer: Answer,

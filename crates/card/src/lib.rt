@@ -10,11 +10,6 @@ mod records;
 
 pub use answers::Answer;
 pub use answers::Refusal;
-pub use judgements::Change;
-pub use judgements::commanded;
-pub use judgements::removed;
-pub use judgements::reported;
 pub use records::Found;
 pub use records::Outcome;
-pub use records::Reached;
 pub use records::Record;

@@ -13,9 +13,10 @@ ghost use mathlib.Core.Path.{_≡_};
 ghost use Prim.Native.Nat.{_<_};
 ghost use Rattle.zone.specs.Lists.{every, some};
 ghost use Rattle.zone.specs.Zones.{zoneSound, holds};
-ghost use Rattle.card.specs.Answers.{outcomeSeen, changeSeen};
-ghost use Rattle.card.specs.Records.{emptyRecord, differ, sound, findOf, reachOf};
-ghost use Rattle.card.specs.Calls.{addOf, removeOf, reportOf, applyOf, stored};
+ghost use Rattle.card.specs.Answers.{outcomeSeen};
+ghost use Rattle.card.specs.Records.{emptyRecord, differ, sound, findOf};
+ghost use Rattle.card.specs.Calls.{addOf, removeOf, reportOf, applyOf};
+ghost use Rattle.card.specs.Steps.{reachOf, changeSeen, stored};
 
 pub struct Record {
     pub zones: [Zone; 16],
@@ -39,6 +40,7 @@ pub struct Outcome {
 }
 
 impl Record {
+    // A record of absent zones.
     pub fn empty() -> Record
         ensures { λ r. ⌜ r ≡ emptyRecord ⌝ }
     {
@@ -115,7 +117,7 @@ impl Record {
     }
 
     // The zone that a call is to work on.
-    pub fn reach(self, zone: usize) -> Reached
+    fn reach(self, zone: usize) -> Reached
         ensures { λ r. ⌜ r ≡ reachOf self zone ⌝ }
     {
         if !self.is_sound() {
@@ -155,6 +157,7 @@ impl Record {
         }
     }
 
+    // A new zone, with that address and that temperature range.
     pub fn add(self, zone: usize, address: u32, range: u32) -> Outcome
         ensures { λ r. ⌜ outcomeSeen r ≡ addOf self zone address range ⌝ }
     {
@@ -183,6 +186,7 @@ impl Record {
         )
     }
 
+    // The zone is emptied; its number and its address may be used again.
     pub fn remove(self, zone: usize) -> Outcome
         ensures { λ r. ⌜ outcomeSeen r ≡ removeOf self zone ⌝ }
     {
@@ -192,6 +196,7 @@ impl Record {
         }
     }
 
+    // The zone's state, by its number, and its actual value.
     pub fn report(self, zone: usize, state: u32, actual: u32) -> Outcome
         ensures { λ r. ⌜ outcomeSeen r ≡ reportOf self zone state actual ⌝ }
     {

@@ -1,8 +1,8 @@
 -- Which zones are sound: the new and the empty one, and a sound one after a write or a report in range. An absent one is the empty zone. Assumes nothing.
 use Prim.Native.Nat.{ℕ}
-use mathlib.Core.Path.{_≡_, refl, sym, ap, _∙_}
-use mathlib.Core.Bool.{Bool, true, false, cond, _&&_}
-use lib.Dec.{eqb, leb·zero}
+use mathlib.Core.Path.{_≡_, refl}
+use mathlib.Core.Bool.{true, false}
+use lib.Dec.{leb·zero}
 use borrow.Author.Tests.{eqb-true}
 use Rattle.zone.specs.declared.figures.Group.the-variants.{Ahue, Hzbg, Rrue, Solw}
 use Rattle.zone.specs.declared.figures.Figures.{Figures}
@@ -16,7 +16,7 @@ use Rattle.zone.specs.declared.zones.Settings.{Settings}
 use Rattle.zone.specs.declared.zones.Zone.{Zone}
 use Rattle.zone.specs.Lists.{isZero}
 use Rattle.zone.specs.Figures.{inRange, allZero}
-use Rattle.zone.specs.Zones.{newZone, emptyZone, watchFigures, figuresOf, addressInRange, rangeKnown, actualInRange, isOff, isDeadline, groupsInRange, presentSound, groupsZero, zoneEmpty, zoneSound, withStatus, withFigures}
+use Rattle.zone.specs.Zones.{newZone, emptyZone, watchFigures, figuresOf, addressInRange, rangeKnown, actualInRange, isOff, isDeadline, groupsInRange, presentSound, groupsZero, holdsNothing, zoneSound, withStatus, withFigures}
 use Rattle.zone.proofs.Tests.{never, and-l, and-r}
 
 -- the parts of a present zone's soundness, one by one
@@ -108,7 +108,7 @@ settings-zero s l r p =
 pub absent-empty : (z : Zone) → z .present ≡ false → zoneSound z ≡ true → z ≡ emptyZone
 unfolding zoneSound
 absent-empty z p s =
-    let h : zoneEmpty z ≡ true = rw p at s in
+    let h : holdsNothing z ≡ true = rw p at s in
     let groups : groupsZero z ≡ true = search (and-l, and-r) in
     let address : z .address ≡ 0 = zero _ (search (and-l, and-r)) in
     let range : z .range ≡ 0 = zero _ (search (and-l, and-r)) in

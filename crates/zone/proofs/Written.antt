@@ -1,6 +1,5 @@
 -- What a write and a report set, and that they set nothing else. Assumes nothing.
-use Prim.Native.Nat.{ℕ, _≤_}
-use mathlib.Core.Path.{_≡_, refl, sym}
+use mathlib.Core.Path.{_≡_, refl}
 use Rattle.zone.specs.declared.figures.Group.{Group}
 use Rattle.zone.specs.declared.figures.Group.the-variants.{Ahue, Hzbg, Rrue, Solw}
 use Rattle.zone.specs.declared.figures.Figures.{Figures}
@@ -9,14 +8,14 @@ use Rattle.zone.specs.declared.status.Status.{Status}
 use Rattle.zone.specs.declared.zones.Zone.{Zone}
 use Rattle.zone.specs.Figures.{groupOf}
 use Rattle.zone.specs.Zones.{figuresOf, withFigures, withStatus}
-use Rattle.zone.specs.Rules.{SamePlace, SetsFigures, SetsStatus}
+use Rattle.zone.specs.Rules.{SameHead, SetsFigures, SetsStatus}
 
-written-place : (z : Zone) (f : Figures) → SamePlace z (withFigures z f)
-written-place z (AhueDeadline f) = record { present = refl; address = refl; range = refl }
-written-place z (AhueWindow f) = record { present = refl; address = refl; range = refl }
-written-place z (HzbgLimit f) = record { present = refl; address = refl; range = refl }
-written-place z (RrueReference f) = record { present = refl; address = refl; range = refl }
-written-place z (SolwSetpoint f) = record { present = refl; address = refl; range = refl }
+written-head : (z : Zone) (f : Figures) → SameHead z (withFigures z f)
+written-head z (AhueDeadline f) = record { present = refl; address = refl; range = refl }
+written-head z (AhueWindow f) = record { present = refl; address = refl; range = refl }
+written-head z (HzbgLimit f) = record { present = refl; address = refl; range = refl }
+written-head z (RrueReference f) = record { present = refl; address = refl; range = refl }
+written-head z (SolwSetpoint f) = record { present = refl; address = refl; range = refl }
 
 written-status : (z : Zone) (f : Figures) → withFigures z f .status ≡ z .status
 written-status z (AhueDeadline f) = refl
@@ -55,10 +54,10 @@ written-others z (SolwSetpoint f) Rrue h = refl
 written-others z (SolwSetpoint f) Solw h = absurd (h refl)
 
 pub sets-figures : (z : Zone) (f : Figures) → SetsFigures z f (withFigures z f)
-sets-figures z f = record { place = written-place z f; status = written-status z f; itsGroup = written-group z f; otherGroups = written-others z f }
+sets-figures z f = record { head = written-head z f; status = written-status z f; itsGroup = written-group z f; otherGroups = written-others z f }
 
 pub sets-status : (z : Zone) (s : Status) → SetsStatus z s (withStatus z s)
-sets-status z s = record { place = record { present = refl; address = refl; range = refl }; reported = refl; everyGroup = same }
+sets-status z s = record { head = record { present = refl; address = refl; range = refl }; reported = refl; groups = same }
   where
     same : (g : Group) → figuresOf (withStatus z s) g ≡ figuresOf z g
     same Ahue = refl

@@ -1,4 +1,4 @@
--- A group's figures are a form of the table with its numbers.
+-- The figures of a group: a form of the table with a number for each of its columns.
 use Prim.Native.Nat.{ℕ}
 use mathlib.Core.Bool.{Bool}
 use mathlib.Core.List.{List, [], _∷_}
@@ -31,15 +31,16 @@ pub record Entry : Type 0 where
   pub column : Column
   pub number : ℕ
 
+-- column by column; there are as many numbers as columns (as-many, in proofs/Table.antt)
 abbrev pub entries : List Column → List ℕ → List Entry
 entries [] ns = []
 entries (k ∷ ks) [] = []
 entries (k ∷ ks) (n ∷ ns) = record { column = k; number = n } ∷ entries ks ns
 
 abbrev pub entriesOf : Figures → List Entry
-entriesOf figures = entries (row (formOf figures) .figures) (numbers figures)
+entriesOf figures = entries (row (formOf figures) .columns) (numbers figures)
 
--- "each figure is judged by its own range only", in a zone of that temperature range
+-- every figure lies in its range, in a zone of that temperature range. "In AHUE each figure is judged by its own range only": the others need no such rule
 unfoldable pub inRange : ℕ → Figures → Bool
 inRange range figures = every (λ e. within (e .column .lowest) (e .column .highest range) (e .number)) (entriesOf figures)
 

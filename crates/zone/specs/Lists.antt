@@ -1,4 +1,4 @@
--- Plain words over lists, numbers and texts, which the definitions above them use.
+-- Plain words over lists, numbers and texts, which the other files use.
 use Prim.Native.Nat.{ℕ, _+_}
 use Prim.Native.Char.{code}
 use Prim.Native.String.{String}

@@ -1,4 +1,4 @@
--- Document 01's rules of what is written, as statements about a zone before and after. They are proved in proofs/.
+-- Document 01's rules of what is written, as statements about a zone before and after. proofs/Written.antt proves them of the definitions: sets-figures and sets-status.
 use mathlib.Core.Path.{_≡_}
 use Rattle.zone.specs.declared.figures.Group.{Group}
 use Rattle.zone.specs.declared.figures.Figures.{Figures}
@@ -7,21 +7,21 @@ use Rattle.zone.specs.declared.zones.Zone.{Zone}
 use Rattle.zone.specs.Figures.{groupOf}
 use Rattle.zone.specs.Zones.{figuresOf}
 
--- the zone keeps its place, its address and its temperature range
-pub record SamePlace (before after : Zone) : Type 0 where
+-- the zone stays present, or absent, with its address and its temperature range
+pub record SameHead (before after : Zone) : Type 0 where
   pub present : after .present ≡ before .present
   pub address : after .address ≡ before .address
   pub range : after .range ≡ before .range
 
 -- "A done write sets exactly the figures of its group in its zone"
 pub record SetsFigures (before : Zone) (figures : Figures) (after : Zone) : Type 0 where
-  pub place : SamePlace before after
+  pub head : SameHead before after
   pub status : after .status ≡ before .status
   pub itsGroup : figuresOf after (groupOf figures) ≡ figures
   pub otherGroups : (group : Group) → (group ≡ groupOf figures → ⊥) → figuresOf after group ≡ figuresOf before group
 
 -- "A done report sets exactly the state and the actual value of its zone"
 pub record SetsStatus (before : Zone) (status : Status) (after : Zone) : Type 0 where
-  pub place : SamePlace before after
+  pub head : SameHead before after
   pub reported : after .status ≡ status
-  pub everyGroup : (group : Group) → figuresOf after group ≡ figuresOf before group
+  pub groups : (group : Group) → figuresOf after group ≡ figuresOf before group

@@ -1,10 +1,11 @@
--- THE TABLE of document 01, "Command groups". Ranges, and widths and lengths on both roads, are derived from it and stand nowhere else.
+-- THE TABLE of document 01, "Command groups". The figures' ranges, and their widths and the commands' lengths on both roads, are derived from it and stand nowhere else.
 use Prim.Native.Nat.{ℕ, _+_}
 use mathlib.Core.List.{List, [], _∷_}
 use Rattle.zone.specs.declared.figures.Group.{Group}
 use Rattle.zone.specs.declared.figures.Group.the-variants.{Ahue, Hzbg, Rrue, Solw}
 use Rattle.zone.specs.Lists.{ascii, total}
 
+-- what stands in a column: the flag a; a limit, lower or upper; a time, begin or end, and as wide as these the setpoint
 pub data Kind : Type 0 where
   flag limit time : Kind
 
@@ -26,27 +27,33 @@ pub record Column : Type 0 where
   pub lowest : ℕ
   pub highest : ℕ → ℕ
 
-abbrev pub figure : Kind → ℕ → ℕ → Column
-figure kind low high = record { kind = kind; lowest = low; highest = λ range. high }
+abbrev pub column : Kind → ℕ → ℕ → Column
+column kind low high = record { kind = kind; lowest = low; highest = λ range. high }
 
 -- "0..the zone's temperature range"
 abbrev pub setpoint : Column
 setpoint = record { kind = time; lowest = 0; highest = λ range. range }
 
-pub record Row : Type 0 where
+pub record GroupRow : Type 0 where
   pub group : Group
-  pub figures : List Column
+  pub columns : List Column
 
 -- "The two forms of AHUE are one group"; every other group has one form
 pub data Form : Type 0 where
   deadline window hzbg rrue solw : Form
 
-abbrev pub row : Form → Row
-row deadline = record { group = Ahue; figures = figure flag 0 1 ∷ figure limit 5 99 ∷ figure limit 5 99 ∷ figure time 0 999 ∷ [] }
-row window = record { group = Ahue; figures = figure flag 0 1 ∷ figure limit 5 99 ∷ figure limit 5 99 ∷ figure time 0 998 ∷ figure time 1 999 ∷ [] }
-row hzbg = record { group = Hzbg; figures = figure time 0 999 ∷ [] }
-row rrue = record { group = Rrue; figures = figure flag 0 1 ∷ figure limit 5 100 ∷ figure limit 5 100 ∷ [] }
-row solw = record { group = Solw; figures = setpoint ∷ [] }
+-- "Group", "Figures, in order" and "Range"
+abbrev pub row : Form → GroupRow
+-- a, lower, upper, time
+row deadline = record { group = Ahue; columns = column flag 0 1 ∷ column limit 5 99 ∷ column limit 5 99 ∷ column time 0 999 ∷ [] }
+-- a, lower, upper, begin, end
+row window = record { group = Ahue; columns = column flag 0 1 ∷ column limit 5 99 ∷ column limit 5 99 ∷ column time 0 998 ∷ column time 1 999 ∷ [] }
+-- time
+row hzbg = record { group = Hzbg; columns = column time 0 999 ∷ [] }
+-- a, lower, upper
+row rrue = record { group = Rrue; columns = column flag 0 1 ∷ column limit 5 100 ∷ column limit 5 100 ∷ [] }
+-- setpoint
+row solw = record { group = Solw; columns = setpoint ∷ [] }
 
 -- "Index"
 abbrev pub index : Group → ℕ
@@ -55,7 +62,7 @@ index Hzbg = 0x70
 index Rrue = 0x15
 index Solw = 0x35
 
--- "Group"
+-- the name of a group, as it stands in a line
 abbrev pub name : Group → List ℕ
 name Ahue = ascii "AHUE"
 name Hzbg = ascii "HZBG"
@@ -70,8 +77,8 @@ everyGroup = Ahue ∷ Hzbg ∷ Rrue ∷ Solw ∷ []
 
 -- "A write is S, the name, and each figure after exactly one space"
 abbrev pub lineLength : Form → ℕ
-lineLength form = 5 + total (λ column. 1 + digits (column .kind)) (row form .figures)
+lineLength form = 5 + total (λ k. 1 + digits (k .kind)) (row form .columns)
 
 -- "L counts address, function, index and data"
 abbrev pub frameLength : Form → ℕ
-frameLength form = 3 + total (λ column. bytes (column .kind)) (row form .figures)
+frameLength form = 3 + total (λ k. bytes (k .kind)) (row form .columns)

@@ -73,7 +73,7 @@ actualInRange actual = leb actual 999
 abbrev pub groupsInRange : Zone → Bool
 groupsInRange z = every (λ group. inRange (z .range) (figuresOf z group)) everyGroup
 
--- "every figure of every present zone lies in its range"
+-- "every figure of every present zone lies in its range"; of the state there is nothing to test, since the type has just the four
 abbrev pub presentSound : Zone → Bool
 presentSound z = addressInRange (z .address) && rangeKnown (z .range) && actualInRange (z .status .actual) && groupsInRange z
 
@@ -90,16 +90,17 @@ isDeadline (Window f) = false
 abbrev pub groupsZero : Zone → Bool
 groupsZero z = every (λ group. allZero (figuresOf z group)) everyGroup
 
--- "all its numbers are 0, its state is Off, its watch a deadline"
-abbrev pub zoneEmpty : Zone → Bool
-zoneEmpty z = isZero (z .address) && isZero (z .range) && isZero (z .status .actual) && groupsZero z && isOff (z .status .state) && isDeadline (z .watch)
+-- the same as a test: an absent zone that passes it is the empty zone (absent-empty, in proofs/Sound.antt)
+abbrev pub holdsNothing : Zone → Bool
+holdsNothing z = isZero (z .address) && isZero (z .range) && isZero (z .status .actual) && groupsZero z && isOff (z .status .state) && isDeadline (z .watch)
 
+-- what a sound record asks of each of its zones
 unfoldable pub zoneSound : Zone → Bool
-zoneSound z = cond (z .present) (presentSound z) (zoneEmpty z)
+zoneSound z = cond (z .present) (presentSound z) (holdsNothing z)
 
 -- ---- what is written
 
--- "states 0 Off, 1 On, 2 Calibration, 3 Error"
+-- "states 0 Off, 1 On, 2 Calibration, 3 Error": numbered so for the log, and taken for the report too. A number above 3 is refused before its state could matter
 abbrev pub stateNumbered : ℕ → State
 stateNumbered n = cond (eqb n 0) Off (cond (eqb n 1) On (cond (eqb n 2) Calibration Error))
 

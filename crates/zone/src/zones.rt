@@ -10,7 +10,7 @@ use crate::status::State;
 use crate::status::Status;
 use crate::status::actual_in_range;
 ghost use mathlib.Core.Path.{_≡_};
-ghost use Rattle.zone.specs.Zones.{watchFigures, figuresOf, newZone, emptyZone, addressInRange, rangeKnown, groupsInRange, presentSound, isDeadline, groupsZero, zoneEmpty, zoneSound, holds, withStatus, withWatch, withSettings, withFigures};
+ghost use Rattle.zone.specs.Zones.{watchFigures, figuresOf, newZone, emptyZone, addressInRange, rangeKnown, groupsInRange, presentSound, isDeadline, groupsZero, holdsNothing, zoneSound, holds, withStatus, withWatch, withSettings, withFigures};
 
 // The heating watch: a deadline or a window, each with its own figures.
 pub enum Watch {
@@ -243,7 +243,7 @@ impl Zone {
     }
 
     fn is_empty(self) -> bool
-        ensures { λ r. ⌜ r ≡ zoneEmpty self ⌝ }
+        ensures { λ r. ⌜ r ≡ holdsNothing self ⌝ }
     {
         let status = self.status;
         let state = status.state;

@@ -1,7 +1,8 @@
 -- Where the zone is reached it decides, and its decision is stored; where not, the call is refused for that reason.
 use mathlib.Core.Path.{sym, ap, _∙_}
 use Rattle.card.specs.Records.{zoneAt}
-use Rattle.card.specs.Calls.{commandAt, applyOf, stored}
+use Rattle.card.specs.Calls.{commandAt, applyOf}
+use Rattle.card.specs.Steps.{stored}
 use Rattle.card.proofs.Steps.{stopped, reaches, at-zone}
 use borrow.Author.Needs.{needs}
 use Rattle.card.proofs.records.Record.apply.Statement.{statement}

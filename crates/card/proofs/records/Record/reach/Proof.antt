@@ -1,6 +1,6 @@
 -- Each return is the definition's first test that holds; the last has passed both.
+use Rattle.card.specs.Steps.{reachOf}
 use borrow.Author.Tests.{le-leb, lt-leb}
-use Rattle.card.specs.Records.{reachOf}
 use borrow.Author.Needs.{needs}
 use Rattle.card.proofs.records.Record.reach.Statement.{statement}
 use Rattle.card.proofs.records.Record.reach.Tie as tie

@@ -1,6 +1,7 @@
 -- Where the zone is reached it decides, and its decision is stored; where not, the call is refused for that reason.
 use mathlib.Core.Path.{sym, ap, _∙_}
-use Rattle.card.specs.Calls.{removeAt, removeOf, stored}
+use Rattle.card.specs.Calls.{removeAt, removeOf}
+use Rattle.card.specs.Steps.{stored}
 use Rattle.card.proofs.Steps.{stopped, reaches, at-zone}
 use borrow.Author.Needs.{needs}
 use Rattle.card.proofs.records.Record.remove.Statement.{statement}

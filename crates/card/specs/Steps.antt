@@ -1,0 +1,29 @@
+-- What the functions inside the crate come to on the way to a call's result. No rule of document 01 stands here: the calls' contracts do not cite it.
+use Prim.Native.Nat.{ℕ}
+use mathlib.Core.Bool.{cond, not}
+use Rattle.zone.specs.declared.zones.Zone.{Zone}
+use Rattle.card.specs.declared.answers.Refusal.the-variants.{NotSound, NoZone}
+use Rattle.card.specs.declared.judgements.Change.{Change}
+use Rattle.card.specs.declared.records.Record.{Record}
+use Rattle.card.specs.declared.records.Reached.{Reached}
+use Rattle.card.specs.declared.records.Reached.the-variants.{At, Stopped}
+use Rattle.card.specs.Answers.{Result, numberOf, valuesOf}
+use Rattle.card.specs.Refusals.{settled}
+use Rattle.card.specs.Records.{zoneAt, withZone, sound, noZone}
+use Rattle.card.specs.Calls.{Judgement}
+
+-- the zone that a call is to work on, or the refusal that the call ends with
+unfoldable pub reachOf : Record → ℕ → Reached
+reachOf r n = cond (not (sound r)) (Stopped NotSound) (cond (noZone r n) (Stopped NoZone) (At (zoneAt r n)))
+
+-- what is seen of a change to one zone
+abbrev pub changeSeen : Change → Result Zone
+changeSeen c = record { number = numberOf (c .answer); values = valuesOf (c .answer); after = c .after }
+
+-- a present zone's decision
+abbrev pub judged : Zone → Judgement → Result Zone
+judged z j = settled z (j .rows) (j .values) (j .after)
+
+-- the decision, with the zone stored in the record
+abbrev pub stored : Record → ℕ → Result Zone → Result Record
+stored r n decided = record { number = decided .number; values = decided .values; after = withZone r n (decided .after) }
