@@ -1,9 +1,9 @@
--- THE TABLE of document 01, "Command groups". The figures' ranges, and their widths and the commands' lengths on both roads, are derived from it and stand nowhere else.
-use Prim.Native.Nat.{ℕ, _+_}
+-- THE TABLE of document 01, "Command groups". The figures' ranges, and their widths on both roads, stand here and nowhere else; the commands' lengths are derived from it.
+use Prim.Native.Nat.{ℕ}
 use mathlib.Core.List.{List, [], _∷_}
 use Rattle.zone.specs.declared.figures.Group.{Group}
 use Rattle.zone.specs.declared.figures.Group.the-variants.{Ahue, Hzbg, Rrue, Solw}
-use Rattle.zone.specs.Lists.{ascii, total}
+use Rattle.zone.specs.Lists.{ascii}
 
 -- what stands in a column: the flag a; a limit, lower or upper; a time, begin or end, and as wide as these the setpoint
 pub data Kind : Type 0 where
@@ -74,11 +74,3 @@ everyForm = deadline ∷ window ∷ hzbg ∷ rrue ∷ solw ∷ []
 
 abbrev pub everyGroup : List Group
 everyGroup = Ahue ∷ Hzbg ∷ Rrue ∷ Solw ∷ []
-
--- "A write is S, the name, and each figure after exactly one space"
-abbrev pub lineLength : Form → ℕ
-lineLength form = 5 + total (λ k. 1 + digits (k .kind)) (row form .columns)
-
--- "L counts address, function, index and data"
-abbrev pub frameLength : Form → ℕ
-frameLength form = 3 + total (λ k. bytes (k .kind)) (row form .columns)

@@ -1,0 +1,4 @@
+pub mod FieldLaws
+pub mod DigitRule
+pub mod Same
+pub mod Round

@@ -1,0 +1,3 @@
+-- The text road: document 01, "The text road". Start with Line.
+pub mod Field
+pub mod Line

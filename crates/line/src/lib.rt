@@ -1,0 +1,12 @@
+// The text road's codec: a line is read as a command, and a command is written as its line.
+//
+// It knows commands and no record. specs/Line.antt says what the line of a command is; proofs/Round.antt
+// proves that it is read back as that command, and that nothing else is read as one.
+mod fields;
+mod reading;
+mod writing;
+
+pub use reading::read;
+pub use writing::carries;
+pub use writing::put_figures;
+pub use writing::put_read;

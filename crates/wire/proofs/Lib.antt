@@ -1,0 +1,4 @@
+pub mod Choices
+pub mod Made
+pub mod Row
+pub mod Room
