@@ -7,23 +7,23 @@ use Rattle.line.proofs.reading.deadline.Tie as tie
 
 returns : tie.Need-returns
 unfolding formRead
-returns c = simp (sym (c .before .before .figure .ensures) ∙ c .enum-told .given .1)
+returns c = rw (sym (c .before .before .figure .ensures) ∙ c .enum-told .given .1)
 
 returns-2 : tie.Need-returns-2
 unfolding formRead
-returns-2 c = simp (sym (c .before .before .before .before .before .before .figure .ensures) ∙ c .before .before .before .before .flag .given .1, sym (c .before .before .figure2 .ensures) ∙ c .enum-told2 .given .1)
+returns-2 c = rw (sym (c .before .before .before .before .before .before .figure .ensures) ∙ c .before .before .before .before .flag .given .1, sym (c .before .before .figure2 .ensures) ∙ c .enum-told2 .given .1)
 
 returns-3 : tie.Need-returns-3
 unfolding formRead
-returns-3 c = simp (sym (c .before .before .before .before .before .before .before .before .before .before .figure .ensures) ∙ c .before .before .before .before .before .before .before .before .flag .given .1, sym (c .before .before .before .before .before .before .figure2 .ensures) ∙ c .before .before .before .before .lower .given .1, sym (c .before .before .figure3 .ensures) ∙ c .enum-told3 .given .1)
+returns-3 c = rw (sym (c .before .before .before .before .before .before .before .before .before .before .figure .ensures) ∙ c .before .before .before .before .before .before .before .before .flag .given .1, sym (c .before .before .before .before .before .before .figure2 .ensures) ∙ c .before .before .before .before .lower .given .1, sym (c .before .before .figure3 .ensures) ∙ c .enum-told3 .given .1)
 
 returns-4 : tie.Need-returns-4
 unfolding formRead
-returns-4 c = simp (sym (c .before .before .before .before .before .before .before .before .before .before .before .before .before .before .figure .ensures) ∙ c .before .before .before .before .before .before .before .before .before .before .before .before .flag .given .1, sym (c .before .before .before .before .before .before .before .before .before .before .figure2 .ensures) ∙ c .before .before .before .before .before .before .before .before .lower .given .1, sym (c .before .before .before .before .before .before .figure3 .ensures) ∙ c .before .before .before .before .upper .given .1, sym (c .before .before .figure4 .ensures) ∙ c .enum-told4 .given .1)
+returns-4 c = rw (sym (c .before .before .before .before .before .before .before .before .before .before .before .before .before .before .figure .ensures) ∙ c .before .before .before .before .before .before .before .before .before .before .before .before .flag .given .1, sym (c .before .before .before .before .before .before .before .before .before .before .figure2 .ensures) ∙ c .before .before .before .before .before .before .before .before .lower .given .1, sym (c .before .before .before .before .before .before .figure3 .ensures) ∙ c .before .before .before .before .upper .given .1, sym (c .before .before .figure4 .ensures) ∙ c .enum-told4 .given .1)
 
 returns-5 : tie.Need-returns-5
 unfolding formRead
-returns-5 c = simp (sym (c .before .before .before .before .before .before .before .before .before .before .before .before .before .before .before .figure .ensures) ∙ c .before .before .before .before .before .before .before .before .before .before .before .before .before .flag .given .1, sym (c .before .before .before .before .before .before .before .before .before .before .before .figure2 .ensures) ∙ c .before .before .before .before .before .before .before .before .before .lower .given .1, sym (c .before .before .before .before .before .before .before .figure3 .ensures) ∙ c .before .before .before .before .before .upper .given .1, sym (c .before .before .before .figure4 .ensures) ∙ c .before .time .given .1)
+returns-5 c = rw (sym (c .before .before .before .before .before .before .before .before .before .before .before .before .before .before .before .figure .ensures) ∙ c .before .before .before .before .before .before .before .before .before .before .before .before .before .flag .given .1, sym (c .before .before .before .before .before .before .before .before .before .before .before .figure2 .ensures) ∙ c .before .before .before .before .before .before .before .before .before .lower .given .1, sym (c .before .before .before .before .before .before .before .figure3 .ensures) ∙ c .before .before .before .before .before .upper .given .1, sym (c .before .before .before .figure4 .ensures) ∙ c .before .time .given .1)
 
 pub deadline-spec : {M : Type 1} → statement M
 deadline-spec =

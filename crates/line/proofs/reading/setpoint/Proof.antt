@@ -7,11 +7,11 @@ use Rattle.line.proofs.reading.setpoint.Tie as tie
 
 returns : tie.Need-returns
 unfolding formRead
-returns c = simp (sym (c .before .before .figure .ensures) ∙ c .enum-told .given .1)
+returns c = rw (sym (c .before .before .figure .ensures) ∙ c .enum-told .given .1)
 
 returns-2 : tie.Need-returns-2
 unfolding formRead
-returns-2 c = simp (sym (c .before .before .before .figure .ensures) ∙ c .before .setpoint .given .1)
+returns-2 c = rw (sym (c .before .before .before .figure .ensures) ∙ c .before .setpoint .given .1)
 
 pub setpoint-spec : {M : Type 1} → statement M
 setpoint-spec =

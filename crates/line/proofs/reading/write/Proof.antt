@@ -7,39 +7,39 @@ use Rattle.line.proofs.reading.write.Tie as tie
 
 returns : tie.Need-returns
 unfolding writeRead
-returns c = simp (c .before .before .enum-told .given .1, eq-eqb _ _ (c .before .if1 .taken)) (c .deadline .ensures)
+returns c = rw (c .before .before .enum-told .given .1, eq-eqb _ _ (c .before .if1 .taken)) (c .deadline .ensures)
 
 returns-2 : tie.Need-returns-2
 unfolding writeRead
-returns-2 c = simp (c .before .before .before .enum-told .given .1, ne-eqb _ _ (c .before .before .if1 .left), eq-eqb _ _ (c .before .if2 .taken)) (c .window .ensures)
+returns-2 c = rw (c .before .before .before .enum-told .given .1, ne-eqb _ _ (c .before .before .if1 .left), eq-eqb _ _ (c .before .if2 .taken)) (c .window .ensures)
 
 returns-3 : tie.Need-returns-3
 unfolding writeRead
-returns-3 c = simp (c .before .before .enum-told2 .given .1, eq-eqb _ _ (c .before .if3 .taken)) (c .heating-limit .ensures)
+returns-3 c = rw (c .before .before .enum-told2 .given .1, eq-eqb _ _ (c .before .if3 .taken)) (c .heating-limit .ensures)
 
 returns-4 : tie.Need-returns-4
 unfolding writeRead
-returns-4 c = simp (c .before .before .enum-told3 .given .1, eq-eqb _ _ (c .before .if4 .taken)) (c .reference .ensures)
+returns-4 c = rw (c .before .before .enum-told3 .given .1, eq-eqb _ _ (c .before .if4 .taken)) (c .reference .ensures)
 
 returns-5 : tie.Need-returns-5
 unfolding writeRead
-returns-5 c = simp (c .before .before .enum-told4 .given .1, eq-eqb _ _ (c .before .if5 .taken)) (c .setpoint .ensures)
+returns-5 c = rw (c .before .before .enum-told4 .given .1, eq-eqb _ _ (c .before .if5 .taken)) (c .setpoint .ensures)
 
 returns-6 : tie.Need-returns-6
 unfolding writeRead
-returns-6 c = simp (c .before .before .enum-told .given .1, ne-eqb _ _ (c .before .if1 .left), ne-eqb _ _ (c .if2 .left))
+returns-6 c = rw (c .before .before .enum-told .given .1, ne-eqb _ _ (c .before .if1 .left), ne-eqb _ _ (c .if2 .left))
 
 returns-7 : tie.Need-returns-7
 unfolding writeRead
-returns-7 c = simp (c .before .enum-told2 .given .1, ne-eqb _ _ (c .if3 .left))
+returns-7 c = rw (c .before .enum-told2 .given .1, ne-eqb _ _ (c .if3 .left))
 
 returns-8 : tie.Need-returns-8
 unfolding writeRead
-returns-8 c = simp (c .before .enum-told3 .given .1, ne-eqb _ _ (c .if4 .left))
+returns-8 c = rw (c .before .enum-told3 .given .1, ne-eqb _ _ (c .if4 .left))
 
 returns-9 : tie.Need-returns-9
 unfolding writeRead
-returns-9 c = simp (c .before .enum-told4 .given .1, ne-eqb _ _ (c .if5 .left))
+returns-9 c = rw (c .before .enum-told4 .given .1, ne-eqb _ _ (c .if5 .left))
 
 pub write-spec : {M : Type 1} → statement M
 write-spec =
