@@ -1,0 +1,4 @@
+pub mod ByteRule
+pub mod FrameLaws
+pub mod Shape
+pub mod Round
