@@ -14,6 +14,7 @@ use Rattle.zone.specs.Zones.{emptyZone}
 use Rattle.zone.proofs.Tests.{neither}
 use Rattle.card.specs.declared.answers.Refusal.{Refusal}
 use Rattle.card.specs.declared.answers.Refusal.the-variants.{NotSound, NoZone}
+use Rattle.card.specs.declared.judgements.Asked.the-variants.{Refused}
 use Rattle.card.specs.declared.records.Reached.{Reached}
 use Rattle.card.specs.declared.records.Reached.the-variants.{At, Stopped}
 use Rattle.card.specs.declared.records.Record.{Record}
@@ -21,7 +22,7 @@ use Rattle.card.specs.Answers.{Result, refusalNumber}
 use Rattle.card.specs.Refusals.{Row, first, settled, _gives_}
 use Rattle.card.specs.Records.{zoneAt, withZone, sound, noZone}
 use Rattle.card.specs.Calls.{Judgement, atZone}
-use Rattle.card.specs.Steps.{reachOf, judged, stored}
+use Rattle.card.specs.Steps.{reachOf, judged, stored, askAt}
 
 -- to store the zone that stands there already is to store nothing
 pub same-zone : (r : Record) (n : ℕ) → withZone r n (zoneAt r n) ≡ r
@@ -38,6 +39,15 @@ stored-settled r n rows values z = by-done (isZero (first rows))
         (record { number = first rows; values = cond done values []; after = cond done (withZone r n z) r })
     by-done true = refl
     by-done false = ap (λ (x : Record). record { number = first rows; values = []; after = x }) (same-zone r n)
+
+-- a zone that is asked what was refused already leaves everything as it is
+pub refused-judged : (z : Zone) (why : Refusal) → record { number = refusalNumber why; values = []; after = z } ≡ judged z (askAt z (Refused why))
+refused-judged z why = by-done (isZero (refusalNumber why))
+  where
+    by-done : (done : Bool)
+        → _≡_ {A = Result Zone} (record { number = refusalNumber why; values = []; after = z }) (record { number = refusalNumber why; values = cond done [] []; after = cond done z z })
+    by-done true = refl
+    by-done false = refl
 
 -- ---- a call at a zone, by what stands there
 

@@ -1,16 +1,19 @@
--- What the functions inside the crate come to on the way to a call's result. No rule of document 01 stands here: the calls' contracts do not cite it.
+-- What the functions below the calls come to. No rule of document 01 stands here: the promises of the calls do not cite it.
 use Prim.Native.Nat.{ℕ}
-use mathlib.Core.Bool.{cond, not}
+use mathlib.Core.Bool.{true, cond, not}
+use mathlib.Core.List.{[], _∷_}
 use Rattle.zone.specs.declared.zones.Zone.{Zone}
 use Rattle.card.specs.declared.answers.Refusal.the-variants.{NotSound, NoZone}
+use Rattle.card.specs.declared.judgements.Asked.{Asked}
+use Rattle.card.specs.declared.judgements.Asked.the-variants.{Known, Refused}
 use Rattle.card.specs.declared.judgements.Change.{Change}
 use Rattle.card.specs.declared.records.Record.{Record}
 use Rattle.card.specs.declared.records.Reached.{Reached}
 use Rattle.card.specs.declared.records.Reached.the-variants.{At, Stopped}
-use Rattle.card.specs.Answers.{Result, numberOf, valuesOf}
-use Rattle.card.specs.Refusals.{settled}
+use Rattle.card.specs.Answers.{Result, refusalNumber, numberOf, valuesOf}
+use Rattle.card.specs.Refusals.{_gives_, settled}
 use Rattle.card.specs.Records.{zoneAt, withZone, sound, noZone}
-use Rattle.card.specs.Calls.{Judgement}
+use Rattle.card.specs.Calls.{Judgement, atZone, commandAt}
 
 -- the zone that a call is to work on, or the refusal that the call ends with
 unfoldable pub reachOf : Record → ℕ → Reached
@@ -27,3 +30,11 @@ judged z j = settled z (j .rows) (j .values) (j .after)
 -- the decision, with the zone stored in the record
 abbrev pub stored : Record → ℕ → Result Zone → Result Record
 stored r n decided = record { number = decided .number; values = decided .values; after = withZone r n (decided .after) }
+
+-- a command that came by a road, or the refusal that its bytes met with before it reached the zone
+abbrev pub askAt : Zone → Asked → Judgement
+askAt z (Known command) = commandAt z command
+askAt z (Refused why) = record { rows = (true gives refusalNumber why) ∷ []; values = []; after = z }
+
+unfoldable pub askOf : Record → ℕ → Asked → Result Record
+askOf r n asked = atZone r n (askAt (zoneAt r n) asked)

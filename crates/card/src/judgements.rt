@@ -9,7 +9,13 @@ use zone::Zone;
 use zone::actual_in_range;
 ghost use mathlib.Core.Path.{_≡_};
 ghost use Rattle.card.specs.Calls.{removeAt, reportAt, writeAt, commandAt};
-ghost use Rattle.card.specs.Steps.{changeSeen, judged};
+ghost use Rattle.card.specs.Steps.{changeSeen, judged, askAt};
+
+// What a road brings to a zone: a command, or the refusal that its bytes met with.
+pub enum Asked {
+    Known(Command),
+    Refused(Refusal),
+}
 
 pub struct Change {
     pub answer: Answer,
@@ -53,8 +59,18 @@ pub fn reported(z: Zone, state: u32, actual: u32) -> Change
     }
 }
 
+// What a road brings, at a zone.
+pub fn heard(z: Zone, asked: Asked) -> Change
+    ensures { λ r. ⌜ changeSeen r ≡ judged z (askAt z asked) ⌝ }
+{
+    match asked {
+        Asked::Known(command) => commanded(z, command),
+        Asked::Refused(why) => refused(z, why),
+    }
+}
+
 // A command at a zone.
-pub fn commanded(z: Zone, command: Command) -> Change
+fn commanded(z: Zone, command: Command) -> Change
     ensures { λ r. ⌜ changeSeen r ≡ judged z (commandAt z command) ⌝ }
 {
     match command {

@@ -10,6 +10,7 @@ mod records;
 
 pub use answers::Answer;
 pub use answers::Refusal;
+pub use judgements::Asked;
 pub use records::Found;
 pub use records::Outcome;
 pub use records::Record;

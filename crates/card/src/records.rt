@@ -1,8 +1,9 @@
 // The record, its soundness, the look-up of an address, and the calls.
 use crate::answers::Answer;
 use crate::answers::Refusal;
+use crate::judgements::Asked;
 use crate::judgements::Change;
-use crate::judgements::commanded;
+use crate::judgements::heard;
 use crate::judgements::removed;
 use crate::judgements::reported;
 use zone::Command;
@@ -16,7 +17,7 @@ ghost use Rattle.zone.specs.Zones.{zoneSound, holds};
 ghost use Rattle.card.specs.Answers.{outcomeSeen};
 ghost use Rattle.card.specs.Records.{emptyRecord, differ, sound, findOf};
 ghost use Rattle.card.specs.Calls.{addOf, removeOf, reportOf, applyOf};
-ghost use Rattle.card.specs.Steps.{reachOf, changeSeen, stored};
+ghost use Rattle.card.specs.Steps.{reachOf, changeSeen, stored, askOf};
 
 pub struct Record {
     pub zones: [Zone; 16],
@@ -210,9 +211,17 @@ impl Record {
     pub fn apply(self, zone: usize, command: Command) -> Outcome
         ensures { λ r. ⌜ outcomeSeen r ≡ applyOf self zone command ⌝ }
     {
+        self.ask(zone, Asked::Known(command))
+    }
+
+    // What a road brings to a zone: for a command the answer of `apply`, and else the refusal, unless
+    // the record or the zone is refused first.
+    pub fn ask(self, zone: usize, asked: Asked) -> Outcome
+        ensures { λ r. ⌜ outcomeSeen r ≡ askOf self zone asked ⌝ }
+    {
         match self.reach(zone) {
             Reached::Stopped(why) => self.refused(why),
-            Reached::At(z) => self.changed(zone, commanded(z, command)),
+            Reached::At(z) => self.changed(zone, heard(z, asked)),
         }
     }
 }

@@ -1,41 +1,13 @@
--- Where the zone is reached it decides, and its decision is stored; where not, the call is refused for that reason.
-use mathlib.Core.Path.{sym, ap, _∙_}
-use Rattle.card.specs.Records.{zoneAt}
-use Rattle.card.specs.Calls.{commandAt, applyOf}
-use Rattle.card.specs.Steps.{stored}
-use Rattle.card.proofs.Steps.{stopped, reaches, at-zone}
+-- A command that is known is asked as it is.
+use Rattle.card.specs.Calls.{applyOf}
+use Rattle.card.specs.Steps.{askOf}
 use borrow.Author.Needs.{needs}
 use Rattle.card.proofs.records.Record.apply.Statement.{statement}
 use Rattle.card.proofs.records.Record.apply.Tie as tie
 
-changed-requires : tie.Need-changed-requires
-changed-requires c κs = reaches _ _ _ (sym (c .before .before .before .before .reach .ensures) ∙ c .before .before .z .given .1) .below
-
 returns : tie.Need-returns
-unfolding applyOf
-returns c =
-    let p = c .before .before .before .before in
-    let a = p .before .args in
-    rw (c .refused .ensures) (stopped _ _ _ (commandAt (zoneAt (a .self) (a .zone)) (a .command)) (sym (p .reach .ensures) ∙ c .before .before .why .given .1))
-
-returns-2 : tie.Need-returns-2
-unfolding applyOf
-returns-2 c =
-    let p = c .before .before .before in
-    let a = p .before .before .before .args in
-    c .changed .ensures
-    ∙ ap (stored (a .self) (a .zone)) (c .before .commanded .ensures)
-    ∙ at-zone _ _ _ (λ z. commandAt z (a .command)) (sym (p .before .before .reach .ensures) ∙ p .z .given .1)
+unfolding applyOf askOf
+returns c = c .ask .ensures
 
 pub apply-spec : {M : Type 1} → statement M
-apply-spec =
-    tie.close
-    (tie.spec
-    (λ c κs. search needs)
-    (λ c. search needs)
-    (λ c κs. search needs)
-    (λ c. search needs)
-    (λ c κs. search needs)
-    changed-requires
-    returns
-    returns-2)
+apply-spec = tie.close (tie.spec (λ c κs. search needs) returns)
