@@ -1,21 +1,22 @@
 -- What is found is the first zone that holds the address; where nothing is found, no zone holds it. Assumes nothing.
-use Prim.Native.Nat.{ℕ, zero, suc, _+_, _<_}
+use Prim.Native.Nat.{ℕ, zero, suc, _+_, _≤_, _<_}
 use mathlib.Core.Path.{_≡_, refl, sym, ap, _∙_}
 use mathlib.Core.Logic.{_↔_}
 use mathlib.Core.Bool.{Bool, true, false, cond}
 use mathlib.Core.List.{List, [], _∷_}
 use native.Mathlib.Omega.{arith}
-use lib.ListN.{getD}
-use lib.Dec.{ltb}
-use borrow.Author.Tests.{ltb-true, ltb-false}
+use lib.ListN.{length, getD, List·getD-eq-default}
+use lib.Dec.{ltb, eqb}
+use borrow.Author.Tests.{ltb-true, ltb-false, lt-leb}
 use Rattle.zone.specs.declared.zones.Zone.{Zone}
 use Rattle.zone.specs.Zones.{emptyZone, holds}
-use Rattle.zone.proofs.Tests.{never}
+use Rattle.zone.proofs.Tests.{never, both}
 use Rattle.card.specs.declared.records.Record.{Record}
 use Rattle.card.specs.declared.records.Found.{Found}
 use Rattle.card.specs.declared.records.Found.the-variants.{At, Nowhere}
-use Rattle.card.specs.Records.{zoneAt, findFrom, findOf}
+use Rattle.card.specs.Records.{zoneAt, sound, noZone, findFrom, findOf}
 use Rattle.card.specs.Rules.{FirstToHold}
+use Rattle.card.proofs.Stored.{sound-parts}
 
 -- what is found from zone k on is zone k + i, where i is the first of the list to hold the address
 record FoundFrom (k : ℕ) (zs : List Zone) (a n : ℕ) : Type 0 where
@@ -80,3 +81,19 @@ found-nowhere r address = (none-holds r address, λ h. by-found (findOf r addres
     by-found : (x : Found) → findOf r address ≡ x → ((m : ℕ) → holds address (zoneAt r m) ≡ false) → findOf r address ≡ Nowhere
     by-found (At k) e h = never (sym (h k) ∙ is-first r address k e .here)
     by-found Nowhere e h = e
+
+-- in a sound record what is found is a present zone
+pub found-there : (r : Record) (address n : ℕ) → sound r ≡ true → findOf r address ≡ At n → noZone r n ≡ false
+found-there r address n s e =
+    let here = is-first r address n e .here in
+    let present = both (zoneAt r n .present) (eqb (zoneAt r n .address) address) here .0 in
+    rw (lt-leb 16 n (below present), present)
+  where
+    below : zoneAt r n .present ≡ true → n < 16
+    below p = by-place (ltb n 16) refl
+      where
+        by-place : (t : Bool) → ltb n 16 ≡ t → n < 16
+        by-place true k = ltb-true n 16 k
+        by-place false k =
+            let past : length (r .zones) ≤ n = omega (arith, sound-parts r s .sixteen, ltb-false n 16 k) in
+            never (ap (λ (z : Zone). z .present) (sym (List·getD-eq-default (r .zones) emptyZone {n = n} past)) ∙ p)

@@ -1,0 +1,37 @@
+-- What the functions below the calls come to. No rule of document 01 stands here: the promises of the calls do not cite it.
+use Prim.Native.Nat.{ℕ}
+use mathlib.Core.Bool.{cond}
+use mathlib.Core.List.{List}
+use Rattle.card.specs.declared.answers.Refusal.{Refusal}
+use Rattle.card.specs.declared.answers.Refusal.the-variants as refusal
+use Rattle.card.specs.declared.answers.Answer.the-variants as answer
+use Rattle.card.specs.declared.judgements.Asked.{Asked}
+use Rattle.card.specs.declared.judgements.Asked.the-variants as asked
+use Rattle.card.specs.declared.records.Record.{Record}
+use Rattle.card.specs.declared.records.Found.{Found}
+use Rattle.card.specs.declared.records.Found.the-variants.{At, Nowhere}
+use Rattle.card.specs.Records.{sound, findOf}
+use Rattle.card.specs.Steps.{askOf}
+use Rattle.wire.specs.declared.Parsed.{Parsed}
+use Rattle.wire.specs.declared.Parsed.the-variants.{Known, Unknown, Syntax}
+use Rattle.roads.specs.declared.calls.Replied.{Replied}
+use Rattle.roads.specs.Calls.{Answered, repliedSeen, inFrameReply}
+
+abbrev pub askedBy : Parsed → Asked
+askedBy (Known command) = asked.Known command
+askedBy Unknown = asked.Refused refusal.Unknown
+askedBy Syntax = asked.Refused refusal.Syntax
+
+-- a refusal without a reply, unless the record is refused first
+abbrev pub silentOf : Record → Refusal → Replied
+silentOf r why = cond (sound r)
+    (record { answer = answer.Refused why; length = 0; after = r })
+    (record { answer = answer.Refused refusal.NotSound; length = 0; after = r })
+
+-- what a frame brings, by who was found to hold its address
+abbrev pub foundAt : Record → ℕ → Asked → List ℕ → Found → Answered
+foundAt r address what room Nowhere = repliedSeen (silentOf r refusal.NobodyHolds) room
+foundAt r address what room (At n) = inFrameReply address (askOf r n what) room
+
+unfoldable pub frameAt : Record → ℕ → Asked → List ℕ → Answered
+frameAt r address what room = foundAt r address what room (findOf r address)

@@ -1,0 +1,16 @@
+// The calls of the two roads: a text line to a zone, a binary frame on the shared pair, and composing
+// either.
+//
+// Nothing is asked of the caller: any record, any bytes and any room may be handed in. What is right is
+// written in specs/: Calls.antt has each call's refusals as a list in document 01's order, and
+// Acknowledgements.antt what is answered on the wire.
+mod answering;
+mod calls;
+mod composing;
+
+pub use calls::Replied;
+pub use calls::frame;
+pub use calls::text;
+pub use composing::Composed;
+pub use composing::compose_frame;
+pub use composing::compose_line;
