@@ -1,3 +1,6 @@
 pub mod Answers
 pub mod CallLaws
 pub mod Worked
+pub mod Exactly
+pub mod Replies
+pub mod Unique
