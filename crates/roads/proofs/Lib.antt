@@ -4,3 +4,4 @@ pub mod Worked
 pub mod Exactly
 pub mod Replies
 pub mod Unique
+pub mod ReadBack
