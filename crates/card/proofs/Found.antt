@@ -2,21 +2,21 @@
 use Prim.Native.Nat.{ℕ, zero, suc, _+_, _≤_, _<_}
 use mathlib.Core.Path.{_≡_, refl, sym, ap, _∙_}
 use mathlib.Core.Logic.{_↔_}
-use mathlib.Core.Bool.{Bool, true, false, cond}
+use mathlib.Core.Bool.{Bool, true, false, cond, _||_}
 use mathlib.Core.List.{List, [], _∷_}
 use native.Mathlib.Omega.{arith}
 use lib.ListN.{length, getD, List·getD-eq-default}
 use lib.Dec.{ltb, eqb}
-use borrow.Author.Tests.{ltb-true, ltb-false, lt-leb}
+use borrow.Author.Tests.{ltb-true, ltb-false, lt-leb, eqb-true, eq-eqb}
 use Rattle.zone.specs.declared.zones.Zone.{Zone}
 use Rattle.zone.specs.Zones.{emptyZone, holds}
 use Rattle.zone.proofs.Tests.{never, both}
 use Rattle.card.specs.declared.records.Record.{Record}
 use Rattle.card.specs.declared.records.Found.{Found}
 use Rattle.card.specs.declared.records.Found.the-variants.{At, Nowhere}
-use Rattle.card.specs.Records.{zoneAt, sound, noZone, findFrom, findOf}
+use Rattle.card.specs.Records.{zoneAt, heldIn, differ, sound, noZone, findFrom, findOf}
 use Rattle.card.specs.Rules.{FirstToHold}
-use Rattle.card.proofs.Stored.{sound-parts}
+use Rattle.card.proofs.Stored.{differ-parts, sound-parts}
 
 -- what is found from zone k on is zone k + i, where i is the first of the list to hold the address
 record FoundFrom (k : ℕ) (zs : List Zone) (a n : ℕ) : Type 0 where
@@ -97,3 +97,34 @@ found-there r address n s e =
         by-place false k =
             let past : length (r .zones) ≤ n = omega (arith, sound-parts r s .sixteen, ltb-false n 16 k) in
             never (ap (λ (z : Zone). z .present) (sym (List·getD-eq-default (r .zones) emptyZone {n = n} past)) ∙ p)
+
+-- ---- in a sound record a zone is found by its own address
+
+held-here : (zs : List Zone) (a n : ℕ) → holds a (getD zs n emptyZone) ≡ true → heldIn zs a ≡ true
+held-here [] a n h = never h
+held-here (z ∷ zs) a zero h = rw h
+held-here (z ∷ zs) a (suc n) h = rw (held-here zs a n h) (or-true (holds a z))
+  where
+    or-true : (t : Bool) → (t || true) ≡ true
+    or-true true = refl
+    or-true false = refl
+
+one-holder : (zs : List Zone) (a m n : ℕ) → differ zs ≡ true → m < n → holds a (getD zs m emptyZone) ≡ true → holds a (getD zs n emptyZone) ≡ true → ⊥
+one-holder [] a m n d l h k = never h
+one-holder (z ∷ zs) a zero zero d l h k = omega arith
+one-holder (z ∷ zs) a zero (suc n) d l h k =
+    let here = both (z .present) (eqb (z .address) a) h in
+    let held : heldIn zs (z .address) ≡ true = rw (eqb-true (z .address) a (here .1)) (held-here zs a n k) in
+    never (sym (differ-parts z zs d .0) ∙ rw (here .0, held))
+one-holder (z ∷ zs) a (suc m) zero d l h k = omega arith
+one-holder (z ∷ zs) a (suc m) (suc n) d l h k = one-holder zs a m n (differ-parts z zs d .1) (omega arith) h k
+
+pub find-own : (r : Record) (n : ℕ) → sound r ≡ true → zoneAt r n .present ≡ true → findOf r (zoneAt r n .address) ≡ At n
+find-own r n s p = found-first r (zoneAt r n .address) n .1 (record { here = here; earlier = λ m l. by-test m l (holds (zoneAt r n .address) (zoneAt r m)) refl })
+  where
+    here : holds (zoneAt r n .address) (zoneAt r n) ≡ true
+    here = rw (p, eq-eqb (zoneAt r n .address) (zoneAt r n .address) refl)
+
+    by-test : (m : ℕ) → m < n → (t : Bool) → holds (zoneAt r n .address) (zoneAt r m) ≡ t → t ≡ false
+    by-test m l true e = absurd (one-holder (r .zones) (zoneAt r n .address) m n (sound-parts r s .addresses) l e here)
+    by-test m l false e = refl

@@ -32,7 +32,7 @@ held-set a (x ∷ xs) zero z h e = rw (e, neither (holds a x) (heldIn xs a) h .1
 held-set a (x ∷ xs) (suc n) z h e = rw (neither (holds a x) (heldIn xs a) h .0, held-set a xs n z (neither (holds a x) (heldIn xs a) h .1) e)
 
 -- of a list whose addresses differ: the first zone's is not held further on, and the others' differ
-differ-parts : (x : Zone) (xs : List Zone) → differ (x ∷ xs) ≡ true → ((x .present && heldIn xs (x .address)) ≡ false) × (differ xs ≡ true)
+pub differ-parts : (x : Zone) (xs : List Zone) → differ (x ∷ xs) ≡ true → ((x .present && heldIn xs (x .address)) ≡ false) × (differ xs ≡ true)
 unfolding differ
 differ-parts x xs s =
     let parts = both (not (x .present && heldIn xs (x .address))) (differ xs) s in

@@ -30,12 +30,19 @@ abbrev pub numberAt : ℕ → List ℕ → ℕ → ℕ
 numberAt zero l at = 0
 numberAt (suc w) l at = getD l at 0 + 256 * numberAt w l (at + 1)
 
--- "Function 89 reads (L = 3), 69 writes"; the bytes that L counts: address, function and index, and each figure in its bytes
+-- "Function 89 reads (L = 3), 69 writes"
+abbrev pub reading : ℕ
+reading = 0x89
+
+abbrev pub writing : ℕ
+writing = 0x69
+
+-- address, function and index, and each figure in its bytes
 abbrev pub frameRoad : Road
 frameRoad = record {
   head = 3;
-  reads = 0x89;
-  writes = 0x69;
+  reads = reading;
+  writes = writing;
   width = λ kind. bytes kind;
   bound = λ kind. 256 ^ bytes kind;
   bytesFor = λ kind n. bytesOf (bytes kind) n;
@@ -47,8 +54,8 @@ abbrev pub bodyWith : ℕ → ℕ → Figures → List ℕ
 bodyWith address function figures = address ∷ function ∷ index (groupOf figures) ∷ figureBytes frameRoad figures
 
 abbrev pub bodyOf : ℕ → Command → List ℕ
-bodyOf address (Read group) = address ∷ 0x89 ∷ index group ∷ []
-bodyOf address (Write figures) = bodyWith address 0x69 figures
+bodyOf address (Read group) = address ∷ reading ∷ index group ∷ []
+bodyOf address (Write figures) = bodyWith address writing figures
 
 -- "68 L L 68, address, function, index, data, checksum, 16"
 abbrev pub framed : List ℕ → List ℕ
@@ -63,7 +70,7 @@ shortFrame address function = 0x10 ∷ address ∷ function ∷ checksumOf (addr
 
 -- ---- the command of a frame
 
--- "68 L L 68 .. 16 with length L + 6 and L at least 3"
+-- "68 L L 68 .. 16 with length L + 6 and L at least 3": so the whole is at least 9 bytes
 abbrev pub shaped : List ℕ → Bool
 shaped f =
     leb 9 (length f)
@@ -77,9 +84,11 @@ shaped f =
 abbrev pub bodyIn : List ℕ → List ℕ
 bodyIn f = take (getD f 1 0) (drop 4 f)
 
+-- the first of them
 abbrev pub addressIn : List ℕ → ℕ
 addressIn f = getD f 4 0
 
+-- the byte behind them is their checksum; where not, "checksum differs"
 abbrev pub checksumRight : List ℕ → Bool
 checksumRight f = eqb (checksumOf (bodyIn f)) (getD f (getD f 1 0 + 4) 0)
 
@@ -95,9 +104,11 @@ abbrev pub indexedRead : Named → List ℕ → Parsed
 indexedRead NoGroup body = Unknown
 indexedRead (Is group) body = commandRead frameRoad (getD body 1 0) group body
 
+-- what the L bytes are found to be
 unfoldable pub bodyRead : List ℕ → Parsed
 bodyRead body = indexedRead (groupIndexed (getD body 2 0)) body
 
+-- what the codec hands on of a frame: a step on the way, which no call's definition cites
 unfoldable pub frameRead : List ℕ → Framed
 frameRead f =
     cond (shaped f)

@@ -32,7 +32,7 @@ use Rattle.roads.proofs.Answers.{said-of}
 
 -- ---- what a line or a body brings to a zone is judged by the rows 7, 8, 9, 10
 
-parsed-asked : (r : Record) (n : ℕ) (p : Parsed) → askOf r n (askedBy p) ≡ resultAt r n ((not (sound r) gives 2) ∷ (noZone r n gives 3) ∷ parsedRows (zoneAt r n) p) p
+pub parsed-asked : (r : Record) (n : ℕ) (p : Parsed) → askOf r n (askedBy p) ≡ resultAt r n ((not (sound r) gives 2) ∷ (noZone r n gives 3) ∷ parsedRows (zoneAt r n) p) p
 unfolding askOf
 parsed-asked r n (Known c) = refl
 parsed-asked r n Unknown = refl
@@ -40,7 +40,7 @@ parsed-asked r n Syntax = refl
 
 -- ---- a line
 
-asked-text : (r : Record) (n : ℕ) (line room : List ℕ) → 32 ≤ length room → askOf r n (askedBy (lineRead line)) ≡ textResult r n line room
+pub asked-text : (r : Record) (n : ℕ) (line room : List ℕ) → 32 ≤ length room → askOf r n (askedBy (lineRead line)) ≡ textResult r n line room
 asked-text r n line room h = rw (le-ltb (length room) 32 h) (parsed-asked r n (lineRead line))
 
 pub text-answer : (r : Record) (n : ℕ) (line room room′ : List ℕ) (k : ℕ) (o : Outcome) → 32 ≤ length room
@@ -123,7 +123,7 @@ module _ (r : Record) (f room : List ℕ) (h : 32 ≤ length room) (s : shaped f
   holder-answer what asked = by-found (findOf r (addressIn f)) refl
     where
       by-found : (x : Rattle.card.specs.declared.records.Found.Found) → findOf r (addressIn f) ≡ x
-          → Rattle.roads.specs.Steps.foundAt r (addressIn f) what room x ≡ inFrameReply (addressIn f) (frameResult r f room) room
+          → Rattle.roads.specs.Steps.byHolder r (addressIn f) what room x ≡ inFrameReply (addressIn f) (frameResult r f room) room
       by-found Nowhere e = unheld e
       by-found (At n) e = ap (λ (o : Result Record). inFrameReply (addressIn f) o room) (asked n e)
 

@@ -5,3 +5,4 @@ pub mod Exactly
 pub mod Replies
 pub mod Unique
 pub mod ReadBack
+pub mod Applied

@@ -1,7 +1,7 @@
 -- What the card composes it reads back: the bytes that a done composing left in the room are that command, with those figures. Assumes nothing.
 use Prim.Native.Nat.{ℕ}
 use mathlib.Core.Path.{_≡_, ap, _∙_}
-use mathlib.Core.Bool.{true, _&&_}
+use mathlib.Core.Bool.{_&&_}
 use mathlib.Core.List.{List}
 use lib.ListN.{length, take, drop}
 use lib.Seq.{take-append-seam}
@@ -16,7 +16,7 @@ use Rattle.line.proofs.Round.{line-reads}
 use Rattle.frame.specs.declared.reading.Framed.the-variants.{Request}
 use Rattle.frame.specs.Frame.{frameRoad, frameOf, frameRead}
 use Rattle.frame.proofs.Round.{frame-reads}
-use Rattle.roads.specs.Calls.{Said, composeRows, composedLine, composedFrame}
+use Rattle.roads.specs.Calls.{Said, composedLine, composedFrame}
 use Rattle.roads.proofs.Exactly.{compose-line-exactly, compose-frame-exactly}
 
 -- the reply: the first bytes of the room, as many as were said
@@ -31,7 +31,7 @@ frame-composed : (a : ℕ) (c : Command) (room : List ℕ) → composedFrame a c
 unfolding composedFrame
 frame-composed a c room e = rw e (take-append-seam (frameOf a c) (drop (length (frameOf a c)) room))
 
--- "Every command that the card composes, as line or frame, it reads back as that command with those figures"
+-- the buyer's second demand: "Every command that the card composes, as line or frame, it reads back as that command with those figures"
 pub line-reads-back : (c : Command) (room : List ℕ) → composedLine c room .number ≡ 0 → lineRead (replyIn (composedLine c room)) ≡ Known c
 line-reads-back c room e =
     ap lineRead (line-composed c room e) ∙ line-reads c (not-false (carriesCommand textRoad c) (compose-line-exactly c room .done .0 e 1))

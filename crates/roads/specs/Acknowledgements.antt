@@ -27,6 +27,7 @@ textOf TransferError = ascii "QFE04"
 
 -- section 5.3: the function byte of each
 abbrev pub functionOf : Acknowledgement → ℕ
+-- "setting the function field FF to 00h"
 functionOf Okay = 0x00
 -- bit 4: "the code of the function field FF or the command index BI is unknown"
 functionOf CommandError = 0x10
@@ -37,7 +38,7 @@ functionOf CommandLock = 0x08
 -- bit 5: "the checksum PS is defective"
 functionOf TransferError = 0x20
 
--- "Reply", for the numbers of refusals; most have none
+-- "Reply", for the numbers of refusals; 9 is a "syntax error on the two roads, else none", and most have none
 abbrev pub replyTo : ℕ → Reply
 replyTo number =
     cond (eqb number 6) (Acknowledges TransferError)
@@ -56,7 +57,7 @@ inText (Acknowledges a) = textOf a
 abbrev pub textRefusal : ℕ → List ℕ
 textRefusal number = inText (replyTo number)
 
--- "A done write is answered QOK00"; "The reply to a read is A in place of S, otherwise the write line of the stored figures"
+-- done without values is a write: "A done write is answered QOK00". Done with figures is a read: "The reply to a read is A in place of S, otherwise the write line of the stored figures"
 abbrev pub textDone : List Figures → List ℕ
 textDone [] = textOf Okay
 textDone (figures ∷ more) = lineWith A figures
@@ -73,7 +74,7 @@ inFrame address (Acknowledges a) = shortFrame address (functionOf a)
 abbrev pub frameRefusal : ℕ → ℕ → List ℕ
 frameRefusal address number = inFrame address (replyTo number)
 
--- "A done write gets the short frame"; "A read reply is the frame with function 00 and the stored figures"
+-- likewise: "A done write gets the short frame"; "A read reply is the frame with function 00 and the stored figures"
 abbrev pub frameDone : ℕ → List Figures → List ℕ
 frameDone address [] = shortFrame address (functionOf Okay)
 frameDone address (figures ∷ more) = framed (bodyWith address (functionOf Okay) figures)

@@ -33,7 +33,7 @@ pub record Said : Type 0 where
   pub length : ℕ
   pub room : List ℕ
 
--- "A reply of n bytes fills the first n bytes of the lent room, and the rest of it keeps its contents; with no reply n is 0"
+-- with a reply in its room; "with no reply n is 0"
 abbrev pub said : ℕ → List Figures → List ℕ → List ℕ → Said
 said number values reply room = record { number = number; values = values; length = lib.ListN.length reply; room = filled reply room }
 
@@ -73,14 +73,17 @@ parsedAt z Syntax = record { rows = []; values = []; after = z }
 abbrev pub parsedRows : Zone → Parsed → List Row
 parsedRows z parsed = (isUnknown parsed gives 7) ∷ (isSyntax parsed gives 8) ∷ parsedAt z parsed .rows
 
+-- what comes of it at zone n, by a list of refusals
+abbrev pub resultAt : Record → ℕ → List Row → Parsed → Result Record
+resultAt r n rows parsed = settled r rows (parsedAt (zoneAt r n) parsed .values) (withZone r n (parsedAt (zoneAt r n) parsed .after))
+
 -- ---- "Text: 1, 2, 3, 7, 8, 9, 10"
 
 abbrev pub textRows : Record → ℕ → List ℕ → List ℕ → List Row
 textRows r n line room = (tooSmall room gives 1) ∷ (not (sound r) gives 2) ∷ (noZone r n gives 3) ∷ parsedRows (zoneAt r n) (lineRead line)
 
 abbrev pub textResult : Record → ℕ → List ℕ → List ℕ → Result Record
-textResult r n line room =
-    settled r (textRows r n line room) (parsedAt (zoneAt r n) (lineRead line) .values) (withZone r n (parsedAt (zoneAt r n) (lineRead line) .after))
+textResult r n line room = resultAt r n (textRows r n line room) (lineRead line)
 
 abbrev pub inTextReply : Result Record → List ℕ → Answered
 inTextReply o room = record { said = said (o .number) (o .values) (textReply (o .number) (o .values)) room; after = o .after }
@@ -112,9 +115,6 @@ frameRows r frame room =
     ∷ (not (checksumRight frame) gives 6)
     ∷ parsedRows (zoneAt r (zoneFound (holder r frame))) (bodyRead (bodyIn frame))
 
-abbrev pub resultAt : Record → ℕ → List Row → Parsed → Result Record
-resultAt r n rows parsed = settled r rows (parsedAt (zoneAt r n) parsed .values) (withZone r n (parsedAt (zoneAt r n) parsed .after))
-
 abbrev pub frameResult : Record → List ℕ → List ℕ → Result Record
 frameResult r frame room = resultAt r (zoneFound (holder r frame)) (frameRows r frame room) (bodyRead (bodyIn frame))
 
@@ -131,9 +131,9 @@ composedSeen o room = record { number = numberOf (o .answer); values = valuesOf 
 
 -- "Figures are judged only by what the road can carry"
 abbrev pub composeRows : Bool → List ℕ → List Row
-composeRows carried room = (tooSmall room gives 1) ∷ (not carried gives 9) ∷ []
+composeRows fits room = (tooSmall room gives 1) ∷ (not fits gives 9) ∷ []
 
--- done: the bytes. "Reply": none
+-- done: the bytes; refused: nothing
 abbrev pub composed : List Row → List ℕ → List ℕ → Said
 composed rows bytes room = said (first rows) [] (cond (isZero (first rows)) bytes []) room
 

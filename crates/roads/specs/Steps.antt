@@ -22,16 +22,16 @@ askedBy (Known command) = asked.Known command
 askedBy Unknown = asked.Refused refusal.Unknown
 askedBy Syntax = asked.Refused refusal.Syntax
 
--- a refusal without a reply, unless the record is refused first
+-- a refusal without a reply: 2 where the record is not sound, else the one given
 abbrev pub silentOf : Record → Refusal → Replied
 silentOf r why = cond (sound r)
     (record { answer = answer.Refused why; length = 0; after = r })
     (record { answer = answer.Refused refusal.NotSound; length = 0; after = r })
 
 -- what a frame brings, by who was found to hold its address
-abbrev pub foundAt : Record → ℕ → Asked → List ℕ → Found → Answered
-foundAt r address what room Nowhere = repliedSeen (silentOf r refusal.NobodyHolds) room
-foundAt r address what room (At n) = inFrameReply address (askOf r n what) room
+abbrev pub byHolder : Record → ℕ → Asked → List ℕ → Found → Answered
+byHolder r address what room Nowhere = repliedSeen (silentOf r refusal.NobodyHolds) room
+byHolder r address what room (At n) = inFrameReply address (askOf r n what) room
 
 unfoldable pub frameAt : Record → ℕ → Asked → List ℕ → Answered
-frameAt r address what room = foundAt r address what room (findOf r address)
+frameAt r address what room = byHolder r address what room (findOf r address)

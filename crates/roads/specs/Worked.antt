@@ -1,4 +1,4 @@
--- Document 01's worked lines and frames, P1 to P12, as it prints them: what is stored, what is sent, and what comes of it.
+-- Document 01's worked lines and frames, P1 to P12: what is stored, what is sent, and what comes of it. The bytes stand as it prints them; where it prints no reply, the reply is that of its rules.
 use Prim.Native.Nat.{ℕ, _+_, _*_, _-_}
 use mathlib.Core.Bool.{cond}
 use mathlib.Core.List.{List, [], _∷_}
@@ -15,10 +15,11 @@ use Rattle.card.specs.Records.{emptyRecord, withZone}
 use Rattle.wire.specs.Room.{filled}
 use Rattle.roads.specs.Calls.{Answered, answerText, answerFrame}
 
--- pairs of capital hexadecimal digits, with spaces between the pairs
+-- a capital hexadecimal digit
 abbrev pub digit16 : ℕ → ℕ
 digit16 d = cond (ltb d 58) (d - 48) (d - 55)
 
+-- pairs of such digits, with spaces between the pairs
 abbrev pub unhex : List ℕ → List ℕ
 unhex [] = []
 unhex (a ∷ []) = []
@@ -107,7 +108,7 @@ with5 z = withZone emptyRecord 5 z
 abbrev pub room : List ℕ
 room = replicate 32 0
 
--- what is seen of a call: number, the whole room, the length of the reply, and the record
+-- what is compared: number, length of the reply, the whole room, and the record. (A read's figures are in its reply.)
 pub record Seen : Type 0 where
   pub number : ℕ
   pub length : ℕ

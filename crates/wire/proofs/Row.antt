@@ -19,7 +19,7 @@ use Rattle.zone.proofs.Tests.{both}
 use Rattle.wire.specs.declared.Figure.{Figure}
 use Rattle.wire.specs.declared.Figure.the-variants.{Value, Bad}
 use Rattle.wire.specs.declared.Parsed.the-variants.{Known}
-use Rattle.wire.specs.Road.{Road, carried, carries, inOrder, figureBytes, lengthOf, Numbers, are, none, join, rowAt, made, written, formRead, writeRead, formsOf, commandRead}
+use Rattle.wire.specs.Road.{Road, carried, carries, inOrder, figureBytes, lengthOf, Numbers, are, none, join, numbersAt, made, written, formRead, writeRead, formsOf, commandRead}
 use Rattle.wire.proofs.Choices.{by-cond, unknown-never, syntax-never}
 use Rattle.wire.proofs.Made.{made-again, form-again, entries-again, AllOf, their-group}
 
@@ -46,7 +46,7 @@ module _ (road : Road) (lawful : Lawful road) where
   ends (k ∷ ks) (n ∷ ns) = lawful .at-next (k .kind) n (inOrder road (entries ks ns))
 
   row-reads : (ks : List Column) (ns pre : List ℕ) → length ns ≡ length ks → every (carried road) (entries ks ns) ≡ true
-      → rowAt road ks (pre ++ inOrder road (entries ks ns)) (length pre) ≡ are ns
+      → numbersAt road ks (pre ++ inOrder road (entries ks ns)) (length pre) ≡ are ns
   row-reads [] [] pre m h = refl
   row-reads [] (n ∷ ns) pre m h = absurd (omega arith)
   row-reads (k ∷ ks) [] pre m h = absurd (omega arith)
@@ -55,7 +55,7 @@ module _ (road : Road) (lawful : Lawful road) where
       let fig : List ℕ = road .bytesFor (k .kind) n in
       let rest : List ℕ = inOrder road (entries ks ns) in
       let at : length (pre ++ fig) ≡ length pre + road .width (k .kind) = length-append pre fig ∙ rw (lawful .size (k .kind) n) in
-      let more : rowAt road ks (pre ++ (fig ++ rest)) (length pre + road .width (k .kind)) ≡ are ns =
+      let more : numbersAt road ks (pre ++ (fig ++ rest)) (length pre + road .width (k .kind)) ≡ are ns =
       rw (← at, ← append-assoc pre fig rest) (row-reads ks ns (pre ++ fig) (omega arith) (fits .1)) in
       rw (lawful .there (k .kind) n pre rest (ltb-true _ _ (fits .0)) (ends ks ns), more)
 
@@ -64,7 +64,7 @@ module _ (road : Road) (lawful : Lawful road) where
   unfolding formRead carries
   form-reads f pre e h =
       let read = row-reads (row (formOf f) .columns) (numbers f) pre (as-many f) h in
-      ap (written (formOf f)) (subst (λ (at : ℕ). rowAt road (row (formOf f) .columns) (pre ++ figureBytes road f) at ≡ are (numbers f)) e read)
+      ap (written (formOf f)) (subst (λ (at : ℕ). numbersAt road (row (formOf f) .columns) (pre ++ figureBytes road f) at ≡ are (numbers f)) e read)
       ∙ ap (λ (g : Figures). Known (Write g)) (made-again f)
 
   bytes-size : (ks : List Column) (ns : List ℕ) → length ns ≡ length ks → length (inOrder road (entries ks ns)) ≡ total (λ k. road .width (k .kind)) ks
@@ -110,10 +110,10 @@ module _ (road : Road) (lawful : Lawful road) where
   by-join (Value n) none ns h f = absurd (let z : _≡_ {A = ℕ} 0 1 = cc in omega arith)
   by-join (Value n) (are ms) ns h f = f n ms refl refl cc
 
-  row-only : (ks : List Column) (at : ℕ) (l ns : List ℕ) → lawful .Good l → rowAt road ks l at ≡ are ns → length l ≡ at + total (λ k. road .width (k .kind)) ks → Row ks ns (drop at l)
+  row-only : (ks : List Column) (at : ℕ) (l ns : List ℕ) → lawful .Good l → numbersAt road ks l at ≡ are ns → length l ≡ at + total (λ k. road .width (k .kind)) ks → Row ks ns (drop at l)
   row-only [] at l ns good h e = let z : ns ≡ [] = cc in rw z (record { bytes = drop-of-length-le l {i = at} (omega arith); fits = refl; count = refl })
   row-only (k ∷ ks) at l ns good h e =
-      by-join (road .foundAt (k .kind) l at) (rowAt road ks l (at + road .width (k .kind))) ns h
+      by-join (road .foundAt (k .kind) l at) (numbersAt road ks l (at + road .width (k .kind))) ns h
       (λ n ms x r z. one-more n ms x z (row-only ks (at + road .width (k .kind)) l ms good r (omega arith)))
     where
       one-more : (n : ℕ) (ms : List ℕ) → road .foundAt (k .kind) l at ≡ Value n → ns ≡ n ∷ ms → Row ks ms (drop (at + road .width (k .kind)) l) → Row (k ∷ ks) ns (drop at l)
@@ -138,7 +138,7 @@ module _ (road : Road) (lawful : Lawful road) where
   form-only : (mark : ℕ) (form : Form) (l : List ℕ) (c : Command) → lawful .Good l → mark ≡ road .writes → length l ≡ lengthOf road form → formRead road form l ≡ Known c → Stands mark (row form .group) l c
   unfolding formRead carries
   form-only mark form l c good m e h =
-      by-written form (rowAt road (row form .columns) l (road .head)) c h
+      by-written form (numbersAt road (row form .columns) l (road .head)) c h
       (λ ns r w.
       let found = row-only (row form .columns) (road .head) l ns good r e in
       rw w

@@ -71,11 +71,12 @@ join Bad ns = none
 join (Value n) none = none
 join (Value n) (are ns) = are (n ∷ ns)
 
-abbrev pub rowAt : Road → List Column → List ℕ → ℕ → Numbers
-rowAt road [] l at = are []
-rowAt road (k ∷ ks) l at = join (road .foundAt (k .kind) l at) (rowAt road ks l (at + road .width (k .kind)))
+-- the numbers of a row, one behind the other from index `at` on
+abbrev pub numbersAt : Road → List Column → List ℕ → ℕ → Numbers
+numbersAt road [] l at = are []
+numbersAt road (k ∷ ks) l at = join (road .foundAt (k .kind) l at) (numbersAt road ks l (at + road .width (k .kind)))
 
--- the figures of a form with those numbers
+-- the figures of a form with those numbers, in the order of `numbers` (made-again and numbers-again, in proofs/Made.antt, tie the two)
 abbrev pub made : Form → List ℕ → Figures
 made deadline ns = AhueDeadline (record { flag = getD ns 0 0; lower = getD ns 1 0; upper = getD ns 2 0; time = getD ns 3 0 })
 made window ns = AhueWindow (record { flag = getD ns 0 0; lower = getD ns 1 0; upper = getD ns 2 0; begin = getD ns 3 0; end = getD ns 4 0 })
@@ -83,20 +84,21 @@ made hzbg ns = HzbgLimit (record { time = getD ns 0 0 })
 made rrue ns = RrueReference (record { flag = getD ns 0 0; lower = getD ns 1 0; upper = getD ns 2 0 })
 made solw ns = SolwSetpoint (record { setpoint = getD ns 0 0 })
 
+-- what a form is read as
 abbrev pub written : Form → Numbers → Parsed
 written form none = Syntax
 written form (are ns) = Known (Write (made form ns))
 
 -- a write in that form: its figures stand behind the head
 unfoldable pub formRead : Road → Form → List ℕ → Parsed
-formRead road form l = written form (rowAt road (row form .columns) l (road .head))
+formRead road form l = written form (numbersAt road (row form .columns) l (road .head))
 
 -- the form is the one that has the length; "wrong length" is a syntax error
 unfoldable pub writeRead : Road → List Form → List ℕ → Parsed
 writeRead road [] l = Syntax
 writeRead road (form ∷ forms) l = cond (eqb (length l) (lengthOf road form)) (formRead road form l) (writeRead road forms l)
 
--- the forms of a group: those with its index
+-- the forms of a group, which its index tells apart from the others'
 abbrev pub withIndex : ℕ → List Form → List Form
 withIndex i [] = []
 withIndex i (form ∷ forms) = cond (eqb (index (row form .group)) i) (form ∷ withIndex i forms) (withIndex i forms)
@@ -104,7 +106,8 @@ withIndex i (form ∷ forms) = cond (eqb (index (row form .group)) i) (form ∷ 
 abbrev pub formsOf : Group → List Form
 formsOf group = withIndex (index group) everyForm
 
--- a command to a known group: a read is the head alone, a write has its figures behind it, and anything else is unknown
+-- a command to a known group, by its mark, the letter or the function. A read is the head alone and a write has its figures behind it; other lengths are syntax errors.
+-- Every other mark is unknown: "A request with function 00, or a line with first letter A, counts as unknown (house)"
 abbrev pub commandRead : Road → ℕ → Group → List ℕ → Parsed
 commandRead road mark group l =
     cond (eqb mark (road .reads)) (cond (eqb (length l) (road .head)) (Known (Read group)) Syntax)

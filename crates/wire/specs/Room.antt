@@ -8,11 +8,11 @@ use lib.ListN.{length, take, drop}
 abbrev pub filled : List ℕ → List ℕ → List ℕ
 filled reply room = reply ++ drop (length reply) room
 
--- n bytes, the reply, were put at the front of the room
+-- how the functions that put a reply promise it: n bytes, the reply, were put at the front of the room
 pub record Filled (reply room after : List ℕ) (n : ℕ) : Type 0 where
   pub count : n ≡ length reply
   pub contents : after ≡ filled reply room
 
--- the room with bytes from index `at` on
+-- a step on the way, and no rule: the room with bytes from index `at` on
 unfoldable pub placed : List ℕ → ℕ → List ℕ → List ℕ
 placed room at bytes = take at room ++ bytes ++ drop (at + length bytes) room
