@@ -1,0 +1,35 @@
+-- The card that stores the first command of a session and only acknowledges later ones is none, whatever its code: every done write counts, whatever came before. Assumes nothing.
+use Prim.Native.Nat.{ℕ, _≤_}
+use mathlib.Core.Path.{_≡_, sym, ap, _∙_}
+use mathlib.Core.Bool.{true}
+use mathlib.Core.List.{List}
+use lib.ListN.{length}
+use borrow.Author.Tests.{ltb-false}
+use Rattle.zone.specs.declared.figures.Figures.{Figures}
+use Rattle.zone.specs.declared.figures.Command.the-variants.{Write}
+use Rattle.zone.specs.Figures.{groupOf}
+use Rattle.zone.specs.Zones.{figuresOf}
+use Rattle.card.specs.declared.records.Record.{Record}
+use Rattle.card.specs.Answers.{Result}
+use Rattle.card.specs.Records.{zoneAt}
+use Rattle.card.specs.Calls.{applyOf}
+use Rattle.card.proofs.Sets.{write-sets}
+use Rattle.wire.specs.Road.{carriesCommand}
+use Rattle.line.specs.Line.{textRoad, lineOf}
+use Rattle.roads.specs.Calls.{answerText}
+use Rattle.roads.proofs.Applied.{text-applies}
+use Rattle.roads.proofs.Exactly.{text-exactly}
+use Rattle.session.specs.Sessions.{Call, run}
+use Rattle.session.specs.Demands.{Counts}
+
+as-line : (r : Record) (n : ℕ) (f : Figures) (room : List ℕ) → carriesCommand textRoad (Write f) ≡ true → answerText r n (lineOf (Write f)) room .said .number ≡ 0
+    → figuresOf (zoneAt (answerText r n (lineOf (Write f)) room .after) n) (groupOf f) ≡ f
+unfolding answerText
+as-line r n f room k e =
+    let big : 32 ≤ length room = ltb-false (length room) 32 (text-exactly r n (lineOf (Write f)) room .done .0 e 0) in
+    let same = text-applies r n (Write f) room big k in
+    let done : applyOf r n (Write f) .number ≡ 0 = ap (λ (o : Result Record). o .number) (sym same) ∙ e in
+    ap (λ (o : Result Record). figuresOf (zoneAt (o .after) n) (groupOf f)) same ∙ write-sets r n f done .itsGroup
+
+pub every-write-counts : (r : Record) (calls : List Call) (n : ℕ) (figures : Figures) (room : List ℕ) → carriesCommand textRoad (Write figures) ≡ true → Counts (run r calls) n figures room
+every-write-counts r calls n f room k = record { applied = λ e. write-sets (run r calls) n f e .itsGroup; as-line = as-line (run r calls) n f room k }

@@ -1,0 +1,3 @@
+-- Sessions of calls, and the buyer's three demands on them. Start with Demands.
+pub mod Sessions
+pub mod Demands
