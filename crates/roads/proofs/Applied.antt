@@ -24,10 +24,9 @@ use Rattle.line.proofs.Round.{line-reads}
 use Rattle.frame.specs.Frame.{frameRoad, bodyWith, framed, frameOf}
 use Rattle.frame.proofs.Round.{frame-reads}
 use Rattle.roads.specs.Acknowledgements.{textReply, frameReply}
-use Rattle.roads.specs.Calls.{textResult, inTextReply, answerText, frameResult, inFrameReply, answerFrame}
+use Rattle.roads.specs.Calls.{replyIn, textResult, inTextReply, answerText, frameResult, inFrameReply, answerFrame}
 use Rattle.roads.specs.Steps.{askedBy}
 use Rattle.roads.proofs.CallLaws.{asked-text, right-sum, held-right}
-use Rattle.roads.proofs.ReadBack.{replyIn}
 
 ask-known : (r : Record) (n : ℕ) (c : Command) → askOf r n (asked.Known c) ≡ applyOf r n c
 unfolding askOf applyOf

@@ -3,7 +3,7 @@ use Prim.Native.Nat.{ℕ}
 use mathlib.Core.Path.{_≡_, ap, _∙_}
 use mathlib.Core.Bool.{_&&_}
 use mathlib.Core.List.{List}
-use lib.ListN.{length, take, drop}
+use lib.ListN.{length, drop}
 use lib.Seq.{take-append-seam}
 use borrow.Author.Tests.{not-false}
 use Rattle.zone.specs.declared.figures.Command.{Command}
@@ -16,12 +16,8 @@ use Rattle.line.proofs.Round.{line-reads}
 use Rattle.frame.specs.declared.reading.Framed.the-variants.{Request}
 use Rattle.frame.specs.Frame.{frameRoad, frameOf, frameRead}
 use Rattle.frame.proofs.Round.{frame-reads}
-use Rattle.roads.specs.Calls.{Said, composedLine, composedFrame}
+use Rattle.roads.specs.Calls.{replyIn, composedLine, composedFrame}
 use Rattle.roads.proofs.Exactly.{compose-line-exactly, compose-frame-exactly}
-
--- the reply: the first bytes of the room, as many as were said
-abbrev pub replyIn : Said → List ℕ
-replyIn s = take (s .length) (s .room)
 
 line-composed : (c : Command) (room : List ℕ) → composedLine c room .number ≡ 0 → replyIn (composedLine c room) ≡ lineOf c
 unfolding composedLine

@@ -2,7 +2,7 @@
 use Prim.Native.Nat.{ℕ}
 use mathlib.Core.Bool.{Bool, true, false, cond, not, _&&_}
 use mathlib.Core.List.{List, [], _∷_}
-use lib.ListN.{length}
+use lib.ListN.{length, take}
 use lib.Dec.{ltb}
 use Rattle.zone.specs.declared.figures.Figures.{Figures}
 use Rattle.zone.specs.declared.figures.Command.{Command}
@@ -36,6 +36,10 @@ pub record Said : Type 0 where
 -- with a reply in its room; "with no reply n is 0"
 abbrev pub said : ℕ → List Figures → List ℕ → List ℕ → Said
 said number values reply room = record { number = number; values = values; length = lib.ListN.length reply; room = filled reply room }
+
+-- the reply: the first bytes of the room, as many as were said
+abbrev pub replyIn : Said → List ℕ
+replyIn s = take (s .length) (s .room)
 
 -- what is answered, and the record afterwards
 pub record Answered : Type 0 where

@@ -16,11 +16,12 @@ use Rattle.card.specs.Calls.{applyOf}
 use Rattle.card.proofs.Sets.{write-sets}
 use Rattle.wire.specs.Road.{carriesCommand}
 use Rattle.line.specs.Line.{textRoad, lineOf}
-use Rattle.roads.specs.Calls.{answerText}
-use Rattle.roads.proofs.Applied.{text-applies}
-use Rattle.roads.proofs.Exactly.{text-exactly}
+use Rattle.frame.specs.Frame.{frameRoad, frameOf}
+use Rattle.roads.specs.Calls.{answerText, answerFrame}
+use Rattle.roads.proofs.Applied.{text-applies, frame-applies}
+use Rattle.roads.proofs.Exactly.{text-exactly, frame-exactly}
 use Rattle.session.specs.Sessions.{Call, run}
-use Rattle.session.specs.Demands.{Counts}
+use Rattle.session.specs.Demands.{Present, Counts}
 
 as-line : (r : Record) (n : ℕ) (f : Figures) (room : List ℕ) → carriesCommand textRoad (Write f) ≡ true → answerText r n (lineOf (Write f)) room .said .number ≡ 0
     → figuresOf (zoneAt (answerText r n (lineOf (Write f)) room .after) n) (groupOf f) ≡ f
@@ -31,5 +32,19 @@ as-line r n f room k e =
     let done : applyOf r n (Write f) .number ≡ 0 = ap (λ (o : Result Record). o .number) (sym same) ∙ e in
     ap (λ (o : Result Record). figuresOf (zoneAt (o .after) n) (groupOf f)) same ∙ write-sets r n f done .itsGroup
 
-pub every-write-counts : (r : Record) (calls : List Call) (n : ℕ) (figures : Figures) (room : List ℕ) → carriesCommand textRoad (Write figures) ≡ true → Counts (run r calls) n figures room
-every-write-counts r calls n f room k = record { applied = λ e. write-sets (run r calls) n f e .itsGroup; as-line = as-line (run r calls) n f room k }
+as-frame : (r : Record) (n : ℕ) (f : Figures) (room : List ℕ) → Present r n → carriesCommand frameRoad (Write f) ≡ true → answerFrame r (frameOf (zoneAt r n .address) (Write f)) room .said .number ≡ 0
+    → figuresOf (zoneAt (answerFrame r (frameOf (zoneAt r n .address) (Write f)) room .after) n) (groupOf f) ≡ f
+unfolding answerFrame
+as-frame r n f room p k e =
+    let bytes = frameOf (zoneAt r n .address) (Write f) in
+    let big : 32 ≤ length room = ltb-false (length room) 32 (frame-exactly r bytes room .done .0 e 0) in
+    let same = frame-applies r n (Write f) room (p .sound-record) (p .present) big k in
+    let done : applyOf r n (Write f) .number ≡ 0 = ap (λ (o : Result Record). o .number) (sym same) ∙ e in
+    ap (λ (o : Result Record). figuresOf (zoneAt (o .after) n) (groupOf f)) same ∙ write-sets r n f done .itsGroup
+
+pub every-write-counts : (r : Record) (calls : List Call) (n : ℕ) (figures : Figures) (room : List ℕ) → Counts (run r calls) n figures room
+every-write-counts r calls n f room = record {
+  applied = λ e. write-sets (run r calls) n f e .itsGroup;
+  as-line = as-line (run r calls) n f room;
+  as-frame = as-frame (run r calls) n f room;
+}

@@ -3,7 +3,7 @@ use Prim.Native.Nat.{ℕ, _≤_, _<_, min}
 use mathlib.Core.Path.{_≡_}
 use mathlib.Core.Bool.{Bool, true, _&&_}
 use mathlib.Core.List.{List, [], _∷_}
-use lib.ListN.{length, take, set}
+use lib.ListN.{length, set}
 use lib.Dec.{eqb}
 use Rattle.zone.specs.declared.figures.Group.{Group}
 use Rattle.zone.specs.declared.figures.Figures.{Figures}
@@ -23,12 +23,8 @@ use Rattle.frame.specs.declared.reading.Framed.the-variants.{Request}
 use Rattle.frame.specs.Frame.{frameRoad, bodyWith, framed, frameOf, addressIn, shaped, frameRead}
 use Rattle.roads.specs.declared.answering.Acknowledgement.{Acknowledgement}
 use Rattle.roads.specs.Acknowledgements.{textOf, functionOf, textRefusal, frameRefusal}
-use Rattle.roads.specs.Calls.{Said, Answered, answerText, answerFrame, composedLine, composedFrame}
+use Rattle.roads.specs.Calls.{Answered, replyIn, answerText, answerFrame, composedLine, composedFrame}
 use Rattle.session.specs.Sessions.{Call, text, frame, add, remove, report, apply, composeLine, composeFrame, answerTo, after, run}
-
--- the reply: the first bytes of the room, as many as were said
-abbrev pub replyIn : Said → List ℕ
-replyIn s = take (s .length) (s .room)
 
 -- ---- 1. "Any bytes, any zone number and any record may be handed to the card."
 
@@ -189,4 +185,7 @@ SameEnd = (r : Record) (xs ys : List Call) → Rerouted after OtherRoad r xs ys 
 -- every-write-counts, in proofs/Useless.antt
 pub record Counts (before : Record) (n : ℕ) (figures : Figures) (room : List ℕ) : Type 0 where
   pub applied : answerTo before (apply n (Write figures)) .said .number ≡ 0 → figuresOf (zoneAt (after before (apply n (Write figures))) n) (groupOf figures) ≡ figures
-  pub as-line : answerTo before (text n (lineOf (Write figures)) room) .said .number ≡ 0 → figuresOf (zoneAt (after before (text n (lineOf (Write figures)) room)) n) (groupOf figures) ≡ figures
+  pub as-line : carriesCommand textRoad (Write figures) ≡ true → answerTo before (text n (lineOf (Write figures)) room) .said .number ≡ 0
+      → figuresOf (zoneAt (after before (text n (lineOf (Write figures)) room)) n) (groupOf figures) ≡ figures
+  pub as-frame : Present before n → carriesCommand frameRoad (Write figures) ≡ true → answerTo before (frame (frameOf (zoneAt before n .address) (Write figures)) room) .said .number ≡ 0
+      → figuresOf (zoneAt (after before (frame (frameOf (zoneAt before n .address) (Write figures)) room)) n) (groupOf figures) ≡ figures
