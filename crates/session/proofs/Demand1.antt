@@ -23,6 +23,7 @@ use Rattle.card.specs.Refusals.{Row, _gives_, first, settled}
 use Rattle.card.specs.Records.{zoneAt, withZone, sound, findOf, noZone}
 use Rattle.card.specs.Calls.{addRows, addOf, Judgement, zoneRows, removeAt, removeOf, reportAt, reportOf, commandAt, applyOf}
 use Rattle.card.proofs.Kept.{add-keeps, remove-keeps, report-keeps, apply-keeps}
+use Rattle.card.proofs.Sets.{remove-sets}
 use Rattle.card.proofs.Found.{found-first}
 use Rattle.wire.specs.declared.Parsed.{Parsed}
 use Rattle.wire.specs.declared.Parsed.the-variants.{Known, Unknown, Syntax}
@@ -33,7 +34,7 @@ use Rattle.frame.specs.Frame.{frameRoad, addressIn, bodyIn, shaped, checksumRig
 use Rattle.roads.specs.Acknowledgements.{textRefusal, textReply, frameRefusal, frameReply}
 use Rattle.roads.specs.Calls.{parsedAt, parsedRows, tooSmall, textRows, textResult, answerText, zoneFound, holder, frameRows, resultAt, frameResult, answerFrame, composeRows, composedLine, composedFrame}
 use Rattle.session.specs.Sessions.{Call, text, frame, add, remove, report, apply, composeLine, composeFrame, answerTo, after}
-use Rattle.session.specs.Demands.{order, among, lent, fixed, Answers, AddsNot, StaysRemoved, Silence}
+use Rattle.session.specs.Demands.{order, among, lent, fixed, EveryCallAnswers, AddsNot, StaysEmpty, StaysRemoved, MeetsSilence}
 
 -- ---- one of the numbered answers
 
@@ -131,8 +132,19 @@ counted r (apply n c) u = refl
 counted r (composeLine c room) u = rw (ne-eqb (first (composeRows (carriesCommand textRoad c) room)) 0 u)
 counted r (composeFrame a c room) u = rw (ne-eqb (first (composeRows (Rattle.zone.specs.Zones.addressInRange a && carriesCommand frameRoad c) room)) 0 u)
 
-pub answers : (r : Record) (call : Call) → Answers r call
-answers r x = record { numbered = numbered r x; record-kept = record-kept r x; acknowledged = acknowledged r x; counted = counted r x }
+tells-nothing : (r : Record) (x : Call) → (answerTo r x .said .number ≡ 0 → ⊥) → answerTo r x .said .values ≡ []
+unfolding answerText answerFrame composedLine composedFrame
+tells-nothing r (text n l room) u = rw (ne-eqb (first (textRows r n l room)) 0 u)
+tells-nothing r (frame f room) u = rw (ne-eqb (first (frameRows r f room)) 0 u)
+tells-nothing r (add n a range) u = add-keeps r n a range .refusal u .1
+tells-nothing r (remove n) u = remove-keeps r n .refusal u .1
+tells-nothing r (report n s v) u = report-keeps r n s v .refusal u .1
+tells-nothing r (apply n c) u = apply-keeps r n c .refusal u .1
+tells-nothing r (composeLine c room) u = refl
+tells-nothing r (composeFrame a c room) u = refl
+
+pub answers : EveryCallAnswers
+answers r x = record { numbered = numbered r x; record-kept = record-kept r x; acknowledged = acknowledged r x; reply-length = counted r x; tells-nothing = tells-nothing r x }
 
 -- ---- a removed zone stays empty
 
@@ -234,9 +246,12 @@ one-kept r n (apply m c) e u = by-zone n m (λ z. ap (λ (t : Record). zoneAt t 
 one-kept r n (composeLine c room) e u = e
 one-kept r n (composeFrame a c room) e u = e
 
+pub stays-empty : StaysEmpty
+stays-empty r n [] e u = e
+stays-empty r n (x ∷ xs) e u = stays-empty (after r x) n xs (one-kept r n x e (u .0)) (u .1)
+
 pub stays-removed : StaysRemoved
-stays-removed r n [] e u = e
-stays-removed r n (x ∷ xs) e u = stays-removed (after r x) n xs (one-kept r n x e (u .0)) (u .1)
+stays-removed r n calls e u = stays-empty (after r (remove n)) n calls (remove-sets r n e) u
 
 -- ---- an address that nobody holds
 
@@ -263,7 +278,7 @@ unheld-five : (r : Record) (f room : List ℕ) → holder r f ≡ Nowhere → 32
 unfolding answerFrame
 unheld-five r f room e h s k = rw (le-ltb (length room) 32 h, s, k, e)
 
-pub meets-silence : (r : Record) (bytes room : List ℕ) → findOf r (addressIn bytes) ≡ Nowhere → Silence r bytes room
+pub meets-silence : MeetsSilence
 meets-silence r f room e = record { record-kept = kept .0; room-kept = kept .1; no-reply = kept .2; five = five }
   where
     kept : (answerFrame r f room .after ≡ r) × (answerFrame r f room .said .room ≡ room) × (answerFrame r f room .said .length ≡ 0)

@@ -1,18 +1,34 @@
 -- Demand 2, gathered from the roads: replies; composing reads back; replies made writes; acknowledgements differ. Assumes nothing.
 use Prim.Native.Nat.{ℕ, _≤_}
-use mathlib.Core.List.{List}
+use mathlib.Core.Path.{_≡_, refl, sym, ap, ap₂, _∙_}
+use mathlib.Core.Bool.{true, false, cond}
+use mathlib.Core.List.{List, []}
 use lib.ListN.{length}
-use Rattle.zone.specs.declared.figures.Group.{Group}
-use Rattle.zone.specs.declared.figures.Command.{Command}
+use borrow.Author.Tests.{ltb-false}
+use Rattle.zone.specs.declared.figures.Figures.{Figures}
+use Rattle.zone.specs.declared.figures.Command.the-variants.{Write}
+use Rattle.zone.specs.Lists.{isZero}
 use Rattle.card.specs.declared.records.Record.{Record}
+use Rattle.card.specs.Answers.{Result}
 use Rattle.card.specs.Records.{zoneAt}
-use Rattle.roads.specs.declared.answering.Acknowledgement.{Acknowledgement}
-use Rattle.roads.proofs.Applied.{text-read-reply, frame-read-reply}
+use Rattle.card.specs.Calls.{applyOf}
+use Rattle.wire.specs.declared.Parsed.the-variants.{Known}
+use Rattle.wire.specs.Road.{carriesCommand}
+use Rattle.wire.specs.Room.{filled}
+use Rattle.line.specs.Line.{textRoad, lineOf}
+use Rattle.frame.specs.Frame.{frameRoad, frameOf, shortFrame, addressIn}
+use Rattle.frame.proofs.Round.{frame-reads}
+use Rattle.roads.specs.declared.answering.Acknowledgement.the-variants.{Okay}
+use Rattle.roads.specs.Acknowledgements.{textOf, textReply, frameReply}
+use Rattle.roads.specs.Calls.{inTextReply, answerText, inFrameReply, answerFrame}
+use Rattle.roads.proofs.CallLaws.{right-sum}
+use Rattle.roads.proofs.Exactly.{text-exactly, frame-exactly}
+use Rattle.roads.proofs.Applied.{text-applies, frame-applies, text-read-reply, frame-read-reply}
 use Rattle.roads.proofs.ReadBack.{line-reads-back, frame-reads-back}
 use Rattle.roads.proofs.Replies.{text-reply-writes, frame-reply-writes, texts-differ, bytes-differ}
-use Rattle.session.specs.Demands.{Present, Replies, ReadsBack, Differ}
+use Rattle.session.specs.Demands.{Present, ReadsAreReplied, WritesAreReplied, ComposedReadsBack, AcknowledgementsDiffer}
 
-pub replies : (r : Record) (n : ℕ) (group : Group) (room : List ℕ) → Present r n → 32 ≤ length room → Replies r n group room
+pub replies : ReadsAreReplied
 replies r n g room p h = record {
   by-line = text-read-reply r n g room (p .sound-record) (p .below) (p .present) h;
   by-frame = frame-read-reply r n g room (p .sound-record) (p .below) (p .present) h;
@@ -20,8 +36,39 @@ replies r n g room p h = record {
   frame-writes = frame-reply-writes r n g (zoneAt r n .address) (p .sound-record) (p .present) .1;
 }
 
-pub reads-back : (address : ℕ) (command : Command) (room : List ℕ) → ReadsBack address command room
+-- a write tells nothing
+no-values : (r : Record) (n : ℕ) (f : Figures) → applyOf r n (Write f) .values ≡ []
+unfolding applyOf
+no-values r n f = elim (isZero (applyOf r n (Write f) .number)) as (λ b. cond {A = List Figures} b [] [] ≡ []) [ true ↦ refl | false ↦ refl ]
+
+line-reply : (r : Record) (n : ℕ) (f : Figures) (room : List ℕ) → carriesCommand textRoad (Write f) ≡ true → answerText r n (lineOf (Write f)) room .said .number ≡ 0
+    → answerText r n (lineOf (Write f)) room .said .room ≡ filled (textOf Okay) room
+unfolding answerText textReply
+line-reply r n f room k e =
+    let big : 32 ≤ length room = ltb-false (length room) 32 (text-exactly r n (lineOf (Write f)) room .done .0 e 0) in
+    let same = text-applies r n (Write f) room big k in
+    let done : applyOf r n (Write f) .number ≡ 0 = ap (λ (o : Result Record). o .number) (sym same) ∙ e in
+    ap (λ (o : Result Record). inTextReply o room .said .room) same ∙ ap₂ (λ (number : ℕ) (values : List Figures). filled (textReply number values) room) done (no-values r n f)
+
+frame-reply : (r : Record) (n : ℕ) (f : Figures) (room : List ℕ) → Present r n → carriesCommand frameRoad (Write f) ≡ true → answerFrame r (frameOf (zoneAt r n .address) (Write f)) room .said .number ≡ 0
+    → answerFrame r (frameOf (zoneAt r n .address) (Write f)) room .said .room ≡ filled (shortFrame (zoneAt r n .address) 0x00) room
+unfolding answerFrame frameReply
+frame-reply r n f room p k e =
+    let a = zoneAt r n .address in
+    let bytes = frameOf a (Write f) in
+    let big : 32 ≤ length room = ltb-false (length room) 32 (frame-exactly r bytes room .done .0 e 0) in
+    let same = frame-applies r n (Write f) room (p .sound-record) (p .present) big k in
+    let done : applyOf r n (Write f) .number ≡ 0 = ap (λ (o : Result Record). o .number) (sym same) ∙ e in
+    let to = right-sum bytes a (Known (Write f)) (frame-reads a (Write f) k) in
+    ap (λ (o : Result Record). inFrameReply (addressIn bytes) o room .said .room) same
+    ∙ ap₂ (λ (number : ℕ) (values : List Figures). filled (frameReply (addressIn bytes) number values) room) done (no-values r n f)
+    ∙ ap (λ (x : ℕ). filled (frameReply x 0 []) room) (sym (to .2))
+
+pub write-replies : WritesAreReplied
+write-replies r n f room = record { by-line = line-reply r n f room; by-frame = frame-reply r n f room }
+
+pub reads-back : ComposedReadsBack
 reads-back a c room = record { line-back = line-reads-back c room; frame-back = frame-reads-back a c room }
 
-pub differ : (a b : Acknowledgement) → Differ a b
+pub differ : AcknowledgementsDiffer
 differ a b = record { in-text = texts-differ a b; in-frames = bytes-differ a b }

@@ -3,18 +3,16 @@ use Prim.Native.Nat.{ℕ, suc, _≤_, _<_, min}
 use mathlib.Core.Path.{_≡_, refl, sym, ap, _∙_}
 use mathlib.Core.Logic.{_⊎_, inl, inr}
 use mathlib.Core.Bool.{Bool, true, false, not, _&&_}
-use mathlib.Core.List.{List, [], _∷_, map}
+use mathlib.Core.List.{List, [], _∷_}
 use native.Mathlib.Omega.{arith}
 use native.Mathlib.Nat.{min-le-left, min-le-right, le-min}
 use lib.ListN.{length}
 use lib.Dec.{leb, ltb, eqb}
 use borrow.Author.Tests.{lt-ltb, ltb-true, ltb-false, leb-false, eqb-true, eqb-false, not-false}
-use Rattle.zone.specs.declared.figures.Figures.{Figures}
 use Rattle.zone.specs.declared.figures.Command.{Command}
 use Rattle.zone.specs.declared.figures.Command.the-variants.{Read, Write}
 use Rattle.zone.specs.declared.zones.Zone.{Zone}
 use Rattle.zone.specs.Lists.{every}
-use Rattle.zone.specs.Table.{flag, limit, time}
 use Rattle.zone.specs.Figures.{entriesOf, inRange}
 use Rattle.zone.proofs.Tests.{never, both, neither}
 use Rattle.zone.proofs.Sound.{fits}
@@ -34,19 +32,18 @@ use Rattle.line.specs.Line.{textRoad, lineOf, lineRead}
 use Rattle.line.proofs.Round.{line-only}
 use Rattle.frame.specs.declared.reading.Framed.the-variants.{Request}
 use Rattle.frame.specs.Frame.{frameRoad, frameOf, addressIn, bodyIn, shaped, checksumRight, bodyRead, frameRead}
-use Rattle.frame.proofs.ByteRule.{Bytes}
 use Rattle.frame.proofs.Round.{frame-only}
 use Rattle.roads.specs.Calls.{parsedRows, textResult, answerText, isNowhere, zoneFound, holder, frameResult, answerFrame}
 use Rattle.roads.proofs.Applied.{text-applies, frame-applies}
 use Rattle.roads.proofs.Exactly.{text-exactly, frame-exactly}
 use Rattle.roads.proofs.Replies.{in-range-both}
-use Rattle.session.specs.Sessions.{Call, text, frame, answerTo, after, run}
-use Rattle.session.specs.Demands.{bothCarry, bothBound, Present, Same, IsLine, IsFrame, OtherRoad, by-frame, by-text, Rerouted, done, as-before, other-road, SameEnd}
+use Rattle.session.specs.Sessions.{Call, text, frame, answerTo, after, runBy}
+use Rattle.session.specs.Demands.{bothCarry, bothBound, BothBounds, BothCarried, Present, SameByBoth, OnlyLines, OnlyFrames, OtherRoad, by-frame, by-text, Rerouted, done, as-before, other-road, SameEnd}
 use Rattle.session.proofs.Demand1.{answers}
 
 -- ---- what both roads can carry
 
-pub both-bounds : map bothBound (flag ∷ limit ∷ time ∷ []) ≡ 10 ∷ 256 ∷ 1000 ∷ []
+pub both-bounds : BothBounds
 both-bounds = refl
 
 ltb-min : (n a b : ℕ) → (ltb n a && ltb n b) ≡ ltb n (min a b)
@@ -74,7 +71,7 @@ every-both f g h e [] = refl
 every-both f g h e (x ∷ xs) = swapped (f x) (every f xs) (g x) (every g xs) ∙ rw (e x, every-both f g h e xs)
 
 -- "Figures both roads can carry": each below the bound of its kind
-pub both-carried : (f : Figures) → bothCarry (Write f) ≡ every (λ e. ltb (e .number) (bothBound (e .column .kind))) (entriesOf f)
+pub both-carried : BothCarried
 unfolding carriesCommand carries
 both-carried f =
     every-both (carried textRoad) (carried frameRoad) (λ e. ltb (e .number) (bothBound (e .column .kind)))
@@ -91,8 +88,7 @@ results : (r : Record) (n : ℕ) (c : Command) (room room′ : List ℕ) → Pre
 results r n c room room′ p k h h′ =
     text-applies r n c room h (both-parts c k .0) ∙ sym (frame-applies r n c room′ (p .sound-record) (p .present) h′ (both-parts c k .1))
 
-pub same-by-both : (r : Record) (n : ℕ) (c : Command) (room room′ : List ℕ) → Present r n → bothCarry c ≡ true → 32 ≤ length room → 32 ≤ length room′
-    → Same (answerText r n (lineOf c) room) (answerFrame r (frameOf (zoneAt r n .address) c) room′)
+pub same-by-both : SameByBoth
 unfolding answerText answerFrame
 same-by-both r n c room room′ p k h h′ =
     let e = results r n c room room′ p k h h′ in
@@ -133,7 +129,7 @@ there r n e =
     let parts = neither (leb 16 n) (not (zoneAt r n .present)) e in
     (leb-false 16 n (parts .0), not-false (zoneAt r n .present) (parts .1))
 
-pub only-lines : (r : Record) (n : ℕ) (line room : List ℕ) → (answerText r n line room .said .number ≡ 0) ⊎ (answerText r n line room .after ≡ r → ⊥) → IsLine line
+pub only-lines : OnlyLines
 only-lines r n line room w =
     let passed = text-exactly r n line room .done .0 (is-done r (text n line room) w) in
     let k = known (zoneAt r n) (lineRead line) (λ j. passed (suc (suc (suc j)))) in
@@ -142,6 +138,8 @@ only-lines r n line room w =
       command = k .0;
       line-is = is .line-is;
       both-carry = both-carry r n (k .0) (not-false (sound r) (passed 1)) (there r n (passed 2) .1) (k .2);
+      present = record { sound-record = not-false (sound r) (passed 1); below = there r n (passed 2) .0; present = there r n (passed 2) .1 };
+      served = ltb-false (length room) 32 (passed 0);
     }
 
 -- a frame of the right shape and sum is read
@@ -153,7 +151,7 @@ found-zone : (x : Found) → isNowhere x ≡ false → x ≡ At (zoneFound x)
 found-zone (At n) e = refl
 found-zone Nowhere e = never (sym e)
 
-pub only-frames : (r : Record) (bytes room : List ℕ) → Bytes bytes → (answerFrame r bytes room .said .number ≡ 0) ⊎ (answerFrame r bytes room .after ≡ r → ⊥) → IsFrame r bytes
+pub only-frames : OnlyFrames
 only-frames r f room small w =
     let passed = frame-exactly r f room .done .0 (is-done r (frame f room) w) in
     let n = zoneFound (holder r f) in
@@ -170,29 +168,22 @@ only-frames r f room small w =
       present = record { sound-record = s; below = place .0; present = place .1 };
       frame-is = is .frame-is ∙ ap (λ (a : ℕ). frameOf a (k .0)) (sym own);
       both-carry = both-carry r n (k .0) s (place .1) (k .2);
+      served = ltb-false (length room) 32 (passed 0);
     }
 
 -- ---- whole sessions
 
 -- once for any kinds of calls: where a call may be sent by another road with the same record, sessions that differ in roads alone end alike
 module _ {C : Type 0} (step : Record → C → Record) (Other : Record → C → C → Type 0) (same : (r : Record) (x y : C) → Other r x y → step r x ≡ step r y) where
-  abbrev pub runBy : Record → List C → Record
-  runBy r [] = r
-  runBy r (x ∷ xs) = runBy (step r x) xs
-
-  pub ends-alike : {r : Record} {xs ys : List C} → Rerouted step Other r xs ys → runBy r xs ≡ runBy r ys
+  pub ends-alike : {r : Record} {xs ys : List C} → Rerouted step Other r xs ys → runBy step r xs ≡ runBy step r ys
   ends-alike done = refl
   ends-alike (as-before x rest) = ends-alike rest
-  ends-alike {r} (other-road {xs = xs} {ys = ys} x y o rest) = ends-alike rest ∙ ap (λ (s : Record). runBy s ys) (same r x y o)
+  ends-alike {r} (other-road {xs = xs} {ys = ys} x y o rest) = ends-alike rest ∙ ap (λ (s : Record). runBy step s ys) (same r x y o)
 
 -- the one lemma for lines and frames
 same-record : (r : Record) (x y : Call) → OtherRoad r x y → after r x ≡ after r y
 same-record r x y (by-frame n c room room′ p k h h′) = same-by-both r n c room room′ p k h h′ .same-record
 same-record r x y (by-text n c room room′ p k h h′) = sym (same-by-both r n c room′ room p k h′ h .same-record)
 
-same-run : (r : Record) (xs : List Call) → runBy after OtherRoad same-record r xs ≡ run r xs
-same-run r [] = refl
-same-run r (x ∷ xs) = same-run (after r x) xs
-
 pub same-end : SameEnd
-same-end r xs ys w = sym (same-run r xs) ∙ ends-alike after OtherRoad same-record w ∙ same-run r ys
+same-end r xs ys w = ends-alike after OtherRoad same-record w

@@ -1,4 +1,4 @@
--- The card that stores the first command of a session and only acknowledges later ones is none, whatever its code: every done write counts, whatever came before. Assumes nothing.
+-- The card that stores the first command of a session and only acknowledges later ones is shut out: every write that is answered as done is stored, whatever came before. Cites write-sets of the card, the law that the edit zone/must-fail/stores_first_only breaks.
 use Prim.Native.Nat.{ℕ, _≤_}
 use mathlib.Core.Path.{_≡_, sym, ap, _∙_}
 use mathlib.Core.Bool.{true}
@@ -20,8 +20,8 @@ use Rattle.frame.specs.Frame.{frameRoad, frameOf}
 use Rattle.roads.specs.Calls.{answerText, answerFrame}
 use Rattle.roads.proofs.Applied.{text-applies, frame-applies}
 use Rattle.roads.proofs.Exactly.{text-exactly, frame-exactly}
-use Rattle.session.specs.Sessions.{Call, run}
-use Rattle.session.specs.Demands.{Present, Counts}
+use Rattle.session.specs.Sessions.{run}
+use Rattle.session.specs.Demands.{Present, EveryWriteIsStored}
 
 as-line : (r : Record) (n : ℕ) (f : Figures) (room : List ℕ) → carriesCommand textRoad (Write f) ≡ true → answerText r n (lineOf (Write f)) room .said .number ≡ 0
     → figuresOf (zoneAt (answerText r n (lineOf (Write f)) room .after) n) (groupOf f) ≡ f
@@ -42,8 +42,8 @@ as-frame r n f room p k e =
     let done : applyOf r n (Write f) .number ≡ 0 = ap (λ (o : Result Record). o .number) (sym same) ∙ e in
     ap (λ (o : Result Record). figuresOf (zoneAt (o .after) n) (groupOf f)) same ∙ write-sets r n f done .itsGroup
 
-pub every-write-counts : (r : Record) (calls : List Call) (n : ℕ) (figures : Figures) (room : List ℕ) → Counts (run r calls) n figures room
-every-write-counts r calls n f room = record {
+pub every-write-is-stored : EveryWriteIsStored
+every-write-is-stored r calls n f room = record {
   applied = λ e. write-sets (run r calls) n f e .itsGroup;
   as-line = as-line (run r calls) n f room;
   as-frame = as-frame (run r calls) n f room;

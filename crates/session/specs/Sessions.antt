@@ -7,7 +7,7 @@ use Rattle.card.specs.Answers.{Result}
 use Rattle.card.specs.Calls.{addOf, removeOf, reportOf, applyOf}
 use Rattle.roads.specs.Calls.{Answered, said, answerText, answerFrame, composedLine, composedFrame}
 
--- a call with its arguments and, where it has one, the room that is lent
+-- a call that document 01 names, with its arguments and, where it has one, the room that is lent
 pub data Call : Type 0 where
   text : ℕ → List ℕ → List ℕ → Call
   frame : List ℕ → List ℕ → Call
@@ -22,6 +22,7 @@ pub data Call : Type 0 where
 abbrev pub silent : Result Record → Answered
 silent o = record { said = said (o .number) (o .values) [] []; after = o .after }
 
+-- what the card answers: the definitions that the contracts of its functions promise, so what is said of them holds of the code
 abbrev pub answerTo : Record → Call → Answered
 answerTo r (text zone line room) = answerText r zone line room
 answerTo r (frame bytes room) = answerFrame r bytes room
@@ -35,7 +36,10 @@ answerTo r (composeFrame address command room) = record { said = composedFrame a
 abbrev pub after : Record → Call → Record
 after r call = answerTo r call .after
 
--- "each step starts from the record just handed back"
+-- "every step starts from the record just handed back": for any kinds of calls, and for the card's
+abbrev pub runBy : {C : Type 0} → (Record → C → Record) → Record → List C → Record
+runBy step r [] = r
+runBy step r (call ∷ calls) = runBy step (step r call) calls
+
 abbrev pub run : Record → List Call → Record
-run r [] = r
-run r (call ∷ calls) = run (after r call) calls
+run r calls = runBy after r calls
