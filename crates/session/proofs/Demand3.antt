@@ -1,6 +1,6 @@
 -- Demand 3: by either road the same; nothing else is done or alters a record; and so for whole sessions. Assumes nothing.
 use Prim.Native.Nat.{ℕ, suc, _≤_, _<_, min}
-use mathlib.Core.Path.{_≡_, refl, sym, ap, _∙_}
+use mathlib.Core.Path.{_≡_, refl, sym, ap, _∙_, subst}
 use mathlib.Core.Logic.{_⊎_, inl, inr}
 use mathlib.Core.Bool.{Bool, true, false, not, _&&_}
 use mathlib.Core.List.{List, [], _∷_}
@@ -21,7 +21,9 @@ use Rattle.card.specs.declared.records.Found.{Found}
 use Rattle.card.specs.declared.records.Found.the-variants.{At, Nowhere}
 use Rattle.card.specs.Answers.{Result}
 use Rattle.card.specs.Records.{zoneAt, sound, noZone}
-use Rattle.card.specs.Calls.{commandAt}
+use Rattle.card.specs.Calls.{commandAt, applyOf}
+use Rattle.card.specs.Steps.{askOf}
+use Rattle.card.proofs.Kept.{add-keeps, remove-keeps, report-keeps, apply-keeps}
 use Rattle.card.specs.Rules.{rowAt}
 use Rattle.card.proofs.Stored.{zone-sound}
 use Rattle.card.proofs.Found.{found-first, found-there}
@@ -33,12 +35,14 @@ use Rattle.line.proofs.Round.{line-only}
 use Rattle.frame.specs.declared.reading.Framed.the-variants.{Request}
 use Rattle.frame.specs.Frame.{frameRoad, frameOf, addressIn, bodyIn, shaped, checksumRight, bodyRead, frameRead}
 use Rattle.frame.proofs.Round.{frame-only}
+use Rattle.roads.specs.Steps.{askedBy}
 use Rattle.roads.specs.Calls.{parsedRows, textResult, answerText, isNowhere, zoneFound, holder, frameResult, answerFrame}
+use Rattle.roads.proofs.CallLaws.{held-right}
 use Rattle.roads.proofs.Applied.{text-applies, frame-applies}
 use Rattle.roads.proofs.Exactly.{text-exactly, frame-exactly}
 use Rattle.roads.proofs.Replies.{in-range-both}
-use Rattle.session.specs.Sessions.{Call, text, frame, answerTo, after, runBy}
-use Rattle.session.specs.Demands.{bothCarry, bothBound, BothBounds, BothCarried, Present, SameByBoth, OnlyLines, OnlyFrames, OtherRoad, by-frame, by-text, Rerouted, done, as-before, other-road, SameEnd}
+use Rattle.session.specs.Sessions.{Call, text, frame, add, remove, report, apply, composeLine, composeFrame, answerTo, after, runBy}
+use Rattle.session.specs.Demands.{bothCarry, bothBound, BothBounds, BothCarried, Present, SameByBoth, StaysSound, OnlyLines, OnlyFrames, OtherRoad, by-frame, by-text, Rerouted, done, as-before, other-road, SameEnd}
 use Rattle.session.proofs.Demand1.{answers}
 
 -- ---- what both roads can carry
@@ -170,6 +174,49 @@ only-frames r f room small w =
       both-carry = both-carry r n (k .0) s (place .1) (k .2);
       served = ltb-false (length room) 32 (passed 0);
     }
+
+-- ---- a sound record stays sound
+
+text-sound : (r : Record) (n : ℕ) (line room : List ℕ) → sound r ≡ true → answerText r n line room .said .number ≡ 0 → sound (answerText r n line room .after) ≡ true
+unfolding answerText
+text-sound r n line room s e =
+    let w = only-lines r n line room (inl e) in
+    let applied = text-applies r n (w .command) room (w .served) (both-parts (w .command) (w .both-carry) .0) in
+    let same : textResult r n line room ≡ applyOf r n (w .command) = ap (λ (l : List ℕ). textResult r n l room) (w .line-is) ∙ applied in
+    subst (λ (o : Result Record). sound (o .after) ≡ true) (sym same) (apply-keeps r n (w .command) .stays s)
+
+frame-sound : (r : Record) (f room : List ℕ) → sound r ≡ true → answerFrame r f room .said .number ≡ 0 → sound (answerFrame r f room .after) ≡ true
+unfolding answerFrame askOf applyOf
+frame-sound r f room s e =
+    let passed = frame-exactly r f room .done .0 e in
+    let n = zoneFound (holder r f) in
+    let k = known (zoneAt r n) (bodyRead (bodyIn f)) (λ j. passed (suc (suc (suc (suc (suc j)))))) in
+    let found = found-zone (holder r f) (passed 3) in
+    let asked = held-right r f room (ltb-false (length room) 32 (passed 0)) (not-false (shaped f) (passed 2)) n found (not-false (checksumRight f) (passed 4)) in
+    let same : frameResult r f room ≡ applyOf r n (k .0) = sym asked ∙ ap (λ (p : Parsed). askOf r n (askedBy p)) (k .1) in
+    subst (λ (o : Result Record). sound (o .after) ≡ true) (sym same) (apply-keeps r n (k .0) .stays s)
+
+-- a refusal leaves the record as it was
+kept-or-done : (r : Record) (x : Call) → sound r ≡ true → (answerTo r x .said .number ≡ 0 → sound (after r x) ≡ true) → sound (after r x) ≡ true
+kept-or-done r x s d = by-number (eqb (answerTo r x .said .number) 0) refl
+  where
+    by-number : (t : Bool) → eqb (answerTo r x .said .number) 0 ≡ t → sound (after r x) ≡ true
+    by-number true e = d (eqb-true _ 0 e)
+    by-number false e = subst (λ (t : Record). sound t ≡ true) (sym (answers r x .record-kept (eqb-false _ 0 e))) s
+
+one-sound : (r : Record) (x : Call) → sound r ≡ true → sound (after r x) ≡ true
+one-sound r (text n line room) s = kept-or-done r (text n line room) s (text-sound r n line room s)
+one-sound r (frame f room) s = kept-or-done r (frame f room) s (frame-sound r f room s)
+one-sound r (add n a range) s = add-keeps r n a range .stays s
+one-sound r (remove n) s = remove-keeps r n .stays s
+one-sound r (report n state actual) s = report-keeps r n state actual .stays s
+one-sound r (apply n c) s = apply-keeps r n c .stays s
+one-sound r (composeLine c room) s = s
+one-sound r (composeFrame a c room) s = s
+
+pub stays-sound : StaysSound
+stays-sound r [] s = s
+stays-sound r (x ∷ xs) s = stays-sound (after r x) xs (one-sound r x s)
 
 -- ---- whole sessions
 

@@ -219,6 +219,10 @@ OnlyLines = (r : Record) (n : ℕ) (line room : List ℕ) → DoneOrAlters r (an
 abbrev pub OnlyFrames : Type 0
 OnlyFrames = (r : Record) (bytes room : List ℕ) → ((i : ℕ) → getD bytes i 0 < 256) → DoneOrAlters r (answerFrame r bytes room) → IsFrame r bytes room
 
+-- a sound record stays sound, through any session: stays-sound, in proofs/Demand3.antt
+abbrev pub StaysSound : Type 0
+StaysSound = (r : Record) (calls : List Call) → sound r ≡ true → sound (run r calls) ≡ true
+
 -- the two ways to send a command to a zone present in the sound record at that step, with room of 32 bytes
 pub data OtherRoad (r : Record) : Call → Call → Type 0 where
   by-frame : (n : ℕ) (command : Command) (room room′ : List ℕ) → Present r n → bothCarry command ≡ true → 32 ≤ length room → 32 ≤ length room′
