@@ -1,10 +1,8 @@
 -- Demand 2, gathered from the roads: replies; composing reads back; replies made writes; acknowledgements differ. Assumes nothing.
-use Prim.Native.Nat.{ℕ, _≤_}
+use Prim.Native.Nat.{ℕ}
 use mathlib.Core.Path.{_≡_, refl, sym, ap, ap₂, _∙_}
 use mathlib.Core.Bool.{true, false, cond}
 use mathlib.Core.List.{List, []}
-use lib.ListN.{length}
-use borrow.Author.Tests.{ltb-false}
 use Rattle.zone.specs.declared.figures.Figures.{Figures}
 use Rattle.zone.specs.declared.figures.Command.the-variants.{Write}
 use Rattle.zone.specs.Lists.{isZero}
@@ -22,10 +20,10 @@ use Rattle.roads.specs.declared.answering.Acknowledgement.the-variants.{Okay}
 use Rattle.roads.specs.Acknowledgements.{textOf, textReply, frameReply}
 use Rattle.roads.specs.Calls.{inTextReply, answerText, inFrameReply, answerFrame}
 use Rattle.roads.proofs.CallLaws.{right-sum}
-use Rattle.roads.proofs.Exactly.{text-exactly, frame-exactly}
-use Rattle.roads.proofs.Applied.{text-applies, frame-applies, text-read-reply, frame-read-reply}
+use Rattle.roads.proofs.Applied.{text-read-reply, frame-read-reply}
 use Rattle.roads.proofs.ReadBack.{line-reads-back, frame-reads-back}
 use Rattle.roads.proofs.Replies.{text-reply-writes, frame-reply-writes, texts-differ, bytes-differ}
+use Rattle.session.proofs.Done.{line-done, frame-done}
 use Rattle.session.specs.Demands.{Present, ReadsAreReplied, WritesAreReplied, ComposedReadsBack, AcknowledgementsDiffer}
 
 pub replies : ReadsAreReplied
@@ -45,10 +43,8 @@ line-reply : (r : Record) (n : ℕ) (f : Figures) (room : List ℕ) → carriesC
     → answerText r n (lineOf (Write f)) room .said .room ≡ filled (textOf Okay) room
 unfolding answerText textReply
 line-reply r n f room k e =
-    let big : 32 ≤ length room = ltb-false (length room) 32 (text-exactly r n (lineOf (Write f)) room .done .0 e 0) in
-    let same = text-applies r n (Write f) room big k in
-    let done : applyOf r n (Write f) .number ≡ 0 = ap (λ (o : Result Record). o .number) (sym same) ∙ e in
-    ap (λ (o : Result Record). inTextReply o room .said .room) same ∙ ap₂ (λ (number : ℕ) (values : List Figures). filled (textReply number values) room) done (no-values r n f)
+    let w = line-done r n (Write f) room k e in
+    ap (λ (o : Result Record). inTextReply o room .said .room) (w .same) ∙ ap₂ (λ (number : ℕ) (values : List Figures). filled (textReply number values) room) (w .done) (no-values r n f)
 
 frame-reply : (r : Record) (n : ℕ) (f : Figures) (room : List ℕ) → Present r n → carriesCommand frameRoad (Write f) ≡ true → answerFrame r (frameOf (zoneAt r n .address) (Write f)) room .said .number ≡ 0
     → answerFrame r (frameOf (zoneAt r n .address) (Write f)) room .said .room ≡ filled (shortFrame (zoneAt r n .address) 0x00) room
@@ -56,12 +52,10 @@ unfolding answerFrame frameReply
 frame-reply r n f room p k e =
     let a = zoneAt r n .address in
     let bytes = frameOf a (Write f) in
-    let big : 32 ≤ length room = ltb-false (length room) 32 (frame-exactly r bytes room .done .0 e 0) in
-    let same = frame-applies r n (Write f) room (p .sound-record) (p .present) big k in
-    let done : applyOf r n (Write f) .number ≡ 0 = ap (λ (o : Result Record). o .number) (sym same) ∙ e in
+    let w = frame-done r n (Write f) room p k e in
     let to = right-sum bytes a (Known (Write f)) (frame-reads a (Write f) k) in
-    ap (λ (o : Result Record). inFrameReply (addressIn bytes) o room .said .room) same
-    ∙ ap₂ (λ (number : ℕ) (values : List Figures). filled (frameReply (addressIn bytes) number values) room) done (no-values r n f)
+    ap (λ (o : Result Record). inFrameReply (addressIn bytes) o room .said .room) (w .same)
+    ∙ ap₂ (λ (number : ℕ) (values : List Figures). filled (frameReply (addressIn bytes) number values) room) (w .done) (no-values r n f)
     ∙ ap (λ (x : ℕ). filled (frameReply x 0 []) room) (sym (to .2))
 
 pub write-replies : WritesAreReplied
