@@ -1,15 +1,19 @@
 -- Demand 2, gathered from the roads: replies; composing reads back; replies made writes; acknowledgements differ. Assumes nothing.
-use Prim.Native.Nat.{ℕ}
+use Prim.Native.Nat.{ℕ, _≤_}
 use mathlib.Core.Path.{_≡_, refl, sym, ap, ap₂, _∙_}
 use mathlib.Core.Bool.{true, false, cond}
-use mathlib.Core.List.{List, []}
+use mathlib.Core.List.{List, [], _∷_}
+use lib.ListN.{length}
 use Rattle.zone.specs.declared.figures.Figures.{Figures}
-use Rattle.zone.specs.declared.figures.Command.the-variants.{Write}
+use Rattle.zone.specs.declared.figures.Command.the-variants.{Read, Write}
+use Rattle.zone.specs.declared.figures.Group.{Group}
+use Rattle.zone.specs.Zones.{figuresOf}
 use Rattle.zone.specs.Lists.{isZero}
 use Rattle.card.specs.declared.records.Record.{Record}
 use Rattle.card.specs.Answers.{Result}
 use Rattle.card.specs.Records.{zoneAt}
 use Rattle.card.specs.Calls.{applyOf}
+use Rattle.card.proofs.Sets.{read-tells, read-alters-nothing}
 use Rattle.wire.specs.declared.Parsed.the-variants.{Known}
 use Rattle.wire.specs.Road.{carriesCommand}
 use Rattle.wire.specs.Room.{filled}
@@ -18,16 +22,36 @@ use Rattle.frame.specs.Frame.{frameRoad, frameOf, shortFrame, addressIn}
 use Rattle.frame.proofs.Round.{frame-reads}
 use Rattle.roads.specs.declared.answering.Acknowledgement.the-variants.{Okay}
 use Rattle.roads.specs.Acknowledgements.{textOf, textReply, frameReply}
-use Rattle.roads.specs.Calls.{inTextReply, answerText, inFrameReply, answerFrame}
+use Rattle.roads.specs.Calls.{textResult, frameResult, inTextReply, answerText, inFrameReply, answerFrame}
 use Rattle.roads.proofs.CallLaws.{right-sum}
-use Rattle.roads.proofs.Applied.{text-read-reply, frame-read-reply}
+use Rattle.roads.proofs.Applied.{text-applies, frame-applies, text-read-reply, frame-read-reply}
 use Rattle.roads.proofs.ReadBack.{line-reads-back, frame-reads-back}
 use Rattle.roads.proofs.Replies.{text-reply-writes, frame-reply-writes, texts-differ, bytes-differ}
 use Rattle.session.proofs.Done.{line-done, frame-done}
-use Rattle.session.specs.Demands.{Present, ReadsAreReplied, WritesAreReplied, ComposedReadsBack, AcknowledgementsDiffer}
+use Rattle.session.specs.Demands.{Present, Told, ReadsAreReplied, WritesAreReplied, ComposedReadsBack, AcknowledgementsDiffer}
+
+-- whichever road the read came by
+told : (r : Record) (n : ℕ) (g : Group) (o : Result Record) → Present r n → o ≡ applyOf r n (Read g) → (o .number ≡ 0) × (o .values ≡ figuresOf (zoneAt r n) g ∷ []) × (o .after ≡ r)
+told r n g o p e =
+    let t = read-tells r n g (p .sound-record) (p .below) (p .present) in
+    (ap (λ (x : Result Record). x .number) e ∙ t .0, ap (λ (x : Result Record). x .values) e ∙ t .1, ap (λ (x : Result Record). x .after) e ∙ read-alters-nothing r n g)
+
+told-by-line : (r : Record) (n : ℕ) (g : Group) (room : List ℕ) → Present r n → 32 ≤ length room → Told r n g (answerText r n (lineOf (Read g)) room)
+unfolding answerText carriesCommand
+told-by-line r n g room p h =
+    let t = told r n g (textResult r n (lineOf (Read g)) room) p (text-applies r n (Read g) room h refl) in
+    record { number = t .0; figures = t .1; record-kept = t .2 }
+
+told-by-frame : (r : Record) (n : ℕ) (g : Group) (room : List ℕ) → Present r n → 32 ≤ length room → Told r n g (answerFrame r (frameOf (zoneAt r n .address) (Read g)) room)
+unfolding answerFrame carriesCommand
+told-by-frame r n g room p h =
+    let t = told r n g (frameResult r (frameOf (zoneAt r n .address) (Read g)) room) p (frame-applies r n (Read g) room (p .sound-record) (p .present) h refl) in
+    record { number = t .0; figures = t .1; record-kept = t .2 }
 
 pub replies : ReadsAreReplied
 replies r n g room p h = record {
+  told-by-line = told-by-line r n g room p h;
+  told-by-frame = told-by-frame r n g room p h;
   by-line = text-read-reply r n g room (p .sound-record) (p .below) (p .present) h;
   by-frame = frame-read-reply r n g room (p .sound-record) (p .below) (p .present) h;
   line-writes = text-reply-writes r n g (p .sound-record) (p .present) .1;

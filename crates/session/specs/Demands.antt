@@ -124,8 +124,15 @@ pub record Present (r : Record) (n : ℕ) : Type 0 where
   pub below : n < 16
   pub present : zoneAt r n .present ≡ true
 
--- the reply to a read is the line, or the frame, of the stored figures
+-- a read is done, alters nothing and tells the stored figures; its reply is their line, or their frame
+pub record Told (r : Record) (n : ℕ) (group : Group) (answered : Answered) : Type 0 where
+  pub number : answered .said .number ≡ 0
+  pub figures : answered .said .values ≡ figuresOf (zoneAt r n) group ∷ []
+  pub record-kept : answered .after ≡ r
+
 pub record Replies (r : Record) (n : ℕ) (group : Group) (room : List ℕ) : Type 0 where
+  pub told-by-line : Told r n group (answerText r n (lineOf (Read group)) room)
+  pub told-by-frame : Told r n group (answerFrame r (frameOf (zoneAt r n .address) (Read group)) room)
   pub by-line : replyIn (answerText r n (lineOf (Read group)) room .said) ≡ lineWith A (figuresOf (zoneAt r n) group)
   pub by-frame : replyIn (answerFrame r (frameOf (zoneAt r n .address) (Read group)) room .said) ≡ framed (bodyWith (zoneAt r n .address) 0x00 (figuresOf (zoneAt r n) group))
   -- "A read reply with A made S, or with 00 made 69 and a fresh checksum, is the write command of its figures"
