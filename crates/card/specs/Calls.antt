@@ -1,6 +1,6 @@
 -- What each call comes to, for every record, sound or not. Its refusals stand in document 01's order.
 use Prim.Native.Nat.{ℕ}
-use mathlib.Core.Bool.{not, _&&_}
+use mathlib.Core.Bool.{Bool, not, _&&_}
 use mathlib.Core.List.{List, [], _∷_}
 use lib.Dec.{leb}
 use Rattle.zone.specs.declared.figures.Figures.{Figures}
@@ -14,26 +14,28 @@ use Rattle.card.specs.Answers.{Result}
 use Rattle.card.specs.Refusals.{Row, _gives_, settled}
 use Rattle.card.specs.Records.{zoneAt, withZone, heldIn, sound, noZone}
 
--- "Adding a zone (zone, address, range): 2, 3, 12, 9, 11"; 3 is "for adding: above 15 only", 9 "for an address outside 1..254 or a range other than 300 and 500"
+-- what a zone decides of a call: its own refusals and, where none applies, the values that are told and the zone afterwards
+pub record Judgement : Type 0 where
+  pub rows : List Row
+  pub values : List Figures
+  pub after : Zone
+
+-- "Adding a zone (zone, address, range): 2, 3, 12, 9, 11"; 3 is "for adding: above 15 only", 9 "for an address outside 1..254 or a range other than 300 and 500".
+-- The last three are the zone's own; `held` says that the "address [is] held by a present zone"
+abbrev pub addAt : Zone → ℕ → ℕ → Bool → Judgement
+addAt z address range held = record {
+  rows = (z .present gives 12) ∷ (not (addressInRange address && rangeKnown range) gives 9) ∷ (held gives 11) ∷ [];
+  values = [];
+  after = newZone address range;
+}
+
 abbrev pub addRows : Record → ℕ → ℕ → ℕ → List Row
-addRows r n address range =
-    (not (sound r) gives 2)
-    ∷ (leb 16 n gives 3)
-    ∷ (zoneAt r n .present gives 12)
-    ∷ (not (addressInRange address && rangeKnown range) gives 9)
-    ∷ (heldIn (r .zones) address gives 11)
-    ∷ []
+addRows r n address range = (not (sound r) gives 2) ∷ (leb 16 n gives 3) ∷ addAt (zoneAt r n) address range (heldIn (r .zones) address) .rows
 
 unfoldable pub addOf : Record → ℕ → ℕ → ℕ → Result Record
 addOf r n address range = settled r (addRows r n address range) [] (withZone r n (newZone address range))
 
 -- ---- calls at a present zone: 2, 3, and then what the zone itself decides
-
--- what a present zone decides of a call: its own refusals and, where none applies, the values that are told and the zone afterwards
-pub record Judgement : Type 0 where
-  pub rows : List Row
-  pub values : List Figures
-  pub after : Zone
 
 -- "record not sound"; "zone above 15, or absent"; and the zone's own
 abbrev pub zoneRows : Record → ℕ → Judgement → List Row

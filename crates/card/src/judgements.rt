@@ -7,8 +7,10 @@ use zone::State;
 use zone::Status;
 use zone::Zone;
 use zone::actual_in_range;
+use zone::address_in_range;
+use zone::range_known;
 ghost use mathlib.Core.Path.{_≡_};
-ghost use Rattle.card.specs.Calls.{removeAt, reportAt, writeAt, commandAt};
+ghost use Rattle.card.specs.Calls.{addAt, removeAt, reportAt, writeAt, commandAt};
 ghost use Rattle.card.specs.Steps.{changeSeen, judged, askAt};
 
 // What a road brings to a zone: a command, or the refusal that its bytes met with.
@@ -23,12 +25,31 @@ pub struct Change {
 }
 
 // A refusal leaves the zone as it was.
-fn refused(z: Zone, why: Refusal) -> Change
+pub fn refused(z: Zone, why: Refusal) -> Change
     ensures { λ r. ⌜ r ≡ record { answer = Answer.Refused why; after = z } ⌝ }
 {
     Change {
         answer: Answer::Refused(why),
         after: z,
+    }
+}
+
+// An addition at a zone; `held` says that some present zone holds the address.
+pub fn added(z: Zone, address: u32, range: u32, held: bool) -> Change
+    ensures { λ r. ⌜ changeSeen r ≡ judged z (addAt z address range held) ⌝ }
+{
+    if z.present {
+        return refused(z, Refusal::AlreadyPresent);
+    }
+    if !(address_in_range(address) & range_known(range)) {
+        return refused(z, Refusal::OutOfRange);
+    }
+    if held {
+        return refused(z, Refusal::AddressHeld);
+    }
+    Change {
+        answer: Answer::Done,
+        after: Zone::new(address, range),
     }
 }
 

@@ -3,13 +3,12 @@ use crate::answers::Answer;
 use crate::answers::Refusal;
 use crate::judgements::Asked;
 use crate::judgements::Change;
+use crate::judgements::added;
 use crate::judgements::heard;
 use crate::judgements::removed;
 use crate::judgements::reported;
 use zone::Command;
 use zone::Zone;
-use zone::address_in_range;
-use zone::range_known;
 ghost use mathlib.Core.Path.{_≡_};
 ghost use Prim.Native.Nat.{_<_};
 ghost use Rattle.zone.specs.Lists.{every, some};
@@ -168,23 +167,8 @@ impl Record {
         if 16 <= zone {
             return self.refused(Refusal::NoZone);
         }
-        let old = self.zones[zone];
-        if old.present {
-            return self.refused(Refusal::AlreadyPresent);
-        }
-        if !(address_in_range(address) & range_known(range)) {
-            return self.refused(Refusal::OutOfRange);
-        }
-        if self.is_held(address) {
-            return self.refused(Refusal::AddressHeld);
-        }
-        self.changed(
-            zone,
-            Change {
-                answer: Answer::Done,
-                after: Zone::new(address, range),
-            },
-        )
+        let z = self.zones[zone];
+        self.changed(zone, added(z, address, range, self.is_held(address)))
     }
 
     // The zone is emptied; its number and its address may be used again.

@@ -69,5 +69,5 @@ number-more v l i h k m = rw (add-one, drop-cons l i 0) (simp (le-ltb _ _ k, le-
 pub ten-more : (v i x : ℕ) → v < 10 ^ i → x ≤ 57 → v * 10 + (x - 48) < 10 ^ (i + 1)
 ten-more v i x h k = rw (add-one, pow-suc) (omega arith)
 
-pub ten-fits : (v i x : ℕ) → v < 10 ^ i → x ≤ 57 → i < 4 → v * 10 + (x - 48) < 10000
-ten-fits v i x h k m = omega (arith, ten-more v i x h k, pow-le-pow-right {n = 10} (lit< tt) {i = i + 1} {j = 4} (omega arith))
+pub ten-fits : (v i x : ℕ) → v < 10 ^ i → x ≤ 57 → i < 5 → v * 10 + (x - 48) < 100000
+ten-fits v i x h k m = omega (arith, ten-more v i x h k, pow-le-pow-right {n = 10} (lit< tt) {i = i + 1} {j = 5} (omega arith))

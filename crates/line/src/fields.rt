@@ -23,8 +23,8 @@ pub fn field(line: &[u8], at: usize) -> &[u8]
 }
 
 // The number that exactly `width` digits make.
-fn digits(field: &[u8], width: usize) -> Figure
-    requires { ⌜ width ≤ 4 ⌝ }
+pub fn digits(field: &[u8], width: usize) -> Figure
+    requires { ⌜ width ≤ 5 ⌝ }
     ensures { λ r. ⌜ r ≡ digitsOf width (now (field .entry)) ⌝ }
 {
     if field.len() != width {
@@ -48,7 +48,7 @@ fn digits(field: &[u8], width: usize) -> Figure
 
 // The figure of `width` digits behind the space at `at`.
 pub fn figure(line: &[u8], at: usize, width: usize) -> Figure
-    requires { ⌜ width ≤ 4 ⌝ }
+    requires { ⌜ width ≤ 5 ⌝ }
     ensures { λ r. ⌜ r ≡ figureOf (now (line .entry)) at width ⌝ }
 {
     if line.len() <= at {

@@ -6,6 +6,7 @@ mod fields;
 mod reading;
 mod writing;
 
+pub use fields::digits;
 pub use reading::read;
 pub use writing::carries;
 pub use writing::put_figures;

@@ -21,7 +21,7 @@ pub struct Replied {
 }
 
 // What a line or a frame's body brings to a zone.
-fn asked(parsed: Parsed) -> Asked
+pub fn asked(parsed: Parsed) -> Asked
     ensures { λ r. ⌜ r ≡ askedBy parsed ⌝ }
 {
     match parsed {

@@ -8,7 +8,10 @@ mod answering;
 mod calls;
 mod composing;
 
+pub use answering::put_frame;
+pub use answering::put_text;
 pub use calls::Replied;
+pub use calls::asked;
 pub use calls::frame;
 pub use calls::text;
 pub use composing::Composed;
