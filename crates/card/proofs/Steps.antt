@@ -1,6 +1,6 @@
 -- How a call at a zone comes to the definition's result. Assumes nothing.
 use Prim.Native.Nat.{ℕ, _<_}
-use mathlib.Core.Path.{_≡_, refl, ap}
+use mathlib.Core.Path.{_≡_, refl, ap, _∙_}
 use mathlib.Core.Bool.{Bool, true, false, cond, not}
 use mathlib.Core.List.{List, [], _∷_}
 use native.Mathlib.Omega.{arith}
@@ -84,7 +84,9 @@ reaches r n z e = by-tests (sound r) (noZone r n) refl refl e
     by-tests true false p q e = record { zone = cc; below = leb-false 16 n (neither (leb 16 n) (not (zoneAt r n .present)) q .0); sound-record = p; there = q }
 
 -- where the zone is reached, the call comes to what the zone decides
-pub at-zone : (r : Record) (n : ℕ) (z : Zone) (j : Zone → Judgement) → reachOf r n ≡ At z → stored r n (judged z (j z)) ≡ atZone r n (j (zoneAt r n))
-at-zone r n z j e =
+pub at-zone : (r : Record) (n : ℕ) (z : Zone) (seen : Zone → Result Zone) (j : Zone → Judgement) → reachOf r n ≡ At z → seen z ≡ judged z (j z)
+    → stored r n (seen (zoneAt r n)) ≡ atZone r n (j (zoneAt r n))
+at-zone r n z seen j e h =
     let k = reaches r n z e in
-    rw (k .sound-record, k .there, k .zone) (stored-settled r n (j (zoneAt r n) .rows) (j (zoneAt r n) .values) (j (zoneAt r n) .after))
+    ap (stored r n) (rw (k .zone) at h)
+    ∙ rw (k .sound-record, k .there) (stored-settled r n (j (zoneAt r n) .rows) (j (zoneAt r n) .values) (j (zoneAt r n) .after))

@@ -1,12 +1,16 @@
 -- What the functions below the calls come to. No rule of document 01 stands here: the promises of the calls do not cite it.
 use Prim.Native.Nat.{ℕ}
-use mathlib.Core.Bool.{true, cond, not}
+use mathlib.Core.Bool.{Bool, true, false, cond, not}
 use mathlib.Core.List.{[], _∷_}
 use Rattle.zone.specs.declared.zones.Zone.{Zone}
+use Rattle.zone.specs.Zones.{newZone, emptyZone, withStatus, withFigures}
 use Rattle.card.specs.declared.answers.Refusal.the-variants.{NotSound, NoZone}
+use Rattle.card.specs.declared.answers.Answer.{Answer}
+use Rattle.card.specs.declared.answers.Answer.the-variants as answer
 use Rattle.card.specs.declared.judgements.Asked.{Asked}
 use Rattle.card.specs.declared.judgements.Asked.the-variants.{Known, Refused}
-use Rattle.card.specs.declared.judgements.Change.{Change}
+use Rattle.card.specs.declared.judgements.Verdict.{Verdict}
+use Rattle.card.specs.declared.judgements.Verdict.the-variants.{Refuses, Tells, Writes, Reports, Adds, Removes}
 use Rattle.card.specs.declared.records.Record.{Record}
 use Rattle.card.specs.declared.records.Reached.{Reached}
 use Rattle.card.specs.declared.records.Reached.the-variants.{At, Stopped}
@@ -19,9 +23,35 @@ use Rattle.card.specs.Calls.{Judgement, atZone, commandAt}
 unfoldable pub reachOf : Record → ℕ → Reached
 reachOf r n = cond (not (sound r)) (Stopped NotSound) (cond (noZone r n) (Stopped NoZone) (At (zoneAt r n)))
 
--- what is seen of a change to one zone
-abbrev pub changeSeen : Change → Result Zone
-changeSeen c = record { number = numberOf (c .answer); values = valuesOf (c .answer); after = c .after }
+-- ---- what a zone decides
+
+abbrev pub answerBy : Verdict → Answer
+answerBy (Refuses why) = answer.Refused why
+answerBy (Tells figures) = answer.Told figures
+answerBy (Writes figures) = answer.Done
+answerBy (Reports status) = answer.Done
+answerBy (Adds address range) = answer.Done
+answerBy Removes = answer.Done
+
+abbrev pub altersBy : Verdict → Bool
+altersBy (Refuses why) = false
+altersBy (Tells figures) = false
+altersBy (Writes figures) = true
+altersBy (Reports status) = true
+altersBy (Adds address range) = true
+altersBy Removes = true
+
+abbrev pub afterBy : Verdict → Zone → Zone
+afterBy (Refuses why) z = z
+afterBy (Tells figures) z = z
+afterBy (Writes figures) z = withFigures z figures
+afterBy (Reports status) z = withStatus z status
+afterBy (Adds address range) z = newZone address range
+afterBy Removes z = emptyZone
+
+-- what is seen of it: number, values, and the zone afterwards
+abbrev pub verdictSeen : Zone → Verdict → Result Zone
+verdictSeen z v = record { number = numberOf (answerBy v); values = valuesOf (answerBy v); after = afterBy v z }
 
 -- a present zone's decision
 abbrev pub judged : Zone → Judgement → Result Zone

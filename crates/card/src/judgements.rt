@@ -1,4 +1,4 @@
-// What a call comes to at one present zone: the answer, and the zone afterwards. No record is in sight.
+// What a zone decides of a call, and what comes of it at that zone. No record is in sight.
 use crate::answers::Answer;
 use crate::answers::Refusal;
 use zone::Command;
@@ -10,8 +10,8 @@ use zone::actual_in_range;
 use zone::address_in_range;
 use zone::range_known;
 ghost use mathlib.Core.Path.{_≡_};
-ghost use Rattle.card.specs.Calls.{addAt, removeAt, reportAt, writeAt, commandAt};
-ghost use Rattle.card.specs.Steps.{changeSeen, judged, askAt};
+ghost use Rattle.card.specs.Calls.{addAt, reportAt, writeAt, commandAt};
+ghost use Rattle.card.specs.Steps as steps;
 
 // What a road brings to a zone: a command, or the refusal that its bytes met with.
 pub enum Asked {
@@ -19,104 +19,118 @@ pub enum Asked {
     Refused(Refusal),
 }
 
-pub struct Change {
-    pub answer: Answer,
-    pub after: Zone,
+// What a zone decides: it refuses, or it tells its figures, or it is altered.
+pub enum Verdict {
+    Refuses(Refusal),
+    Tells(Figures),
+    Writes(Figures),
+    Reports(Status),
+    Adds(u32, u32),
+    Removes,
 }
 
-// A refusal leaves the zone as it was.
-pub fn refused(z: Zone, why: Refusal) -> Change
-    ensures { λ r. ⌜ r ≡ record { answer = Answer.Refused why; after = z } ⌝ }
-{
-    Change {
-        answer: Answer::Refused(why),
-        after: z,
+impl Verdict {
+    pub fn answer(self) -> Answer
+        ensures { λ r. ⌜ r ≡ steps.answerBy self ⌝ }
+    {
+        match self {
+            Verdict::Refuses(why) => Answer::Refused(why),
+            Verdict::Tells(figures) => Answer::Told(figures),
+            Verdict::Writes(_) => Answer::Done,
+            Verdict::Reports(_) => Answer::Done,
+            Verdict::Adds(_, _) => Answer::Done,
+            Verdict::Removes => Answer::Done,
+        }
     }
-}
 
-// An addition at a zone; `held` says that some present zone holds the address.
-pub fn added(z: Zone, address: u32, range: u32, held: bool) -> Change
-    ensures { λ r. ⌜ changeSeen r ≡ judged z (addAt z address range held) ⌝ }
-{
-    if z.present {
-        return refused(z, Refusal::AlreadyPresent);
+    // The zone is to be stored anew.
+    pub fn alters(self) -> bool
+        ensures { λ r. ⌜ r ≡ steps.altersBy self ⌝ }
+    {
+        match self {
+            Verdict::Refuses(_) => false,
+            Verdict::Tells(_) => false,
+            Verdict::Writes(_) => true,
+            Verdict::Reports(_) => true,
+            Verdict::Adds(_, _) => true,
+            Verdict::Removes => true,
+        }
     }
-    if !(address_in_range(address) & range_known(range)) {
-        return refused(z, Refusal::OutOfRange);
-    }
-    if held {
-        return refused(z, Refusal::AddressHeld);
-    }
-    Change {
-        answer: Answer::Done,
-        after: Zone::new(address, range),
-    }
-}
 
-// A removal at a zone.
-pub fn removed(z: Zone) -> Change
-    ensures { λ r. ⌜ changeSeen r ≡ judged z removeAt ⌝ }
-{
-    Change {
-        answer: Answer::Done,
-        after: z.emptied(),
-    }
-}
-
-// A report at a zone.
-pub fn reported(z: Zone, state: u32, actual: u32) -> Change
-    ensures { λ r. ⌜ changeSeen r ≡ judged z (reportAt z state actual) ⌝ }
-{
-    if !((state <= 3) & actual_in_range(actual)) {
-        refused(z, Refusal::OutOfRange)
-    } else {
-        Change {
-            answer: Answer::Done,
-            after: z.with_status(Status {
-                state: State::numbered(state),
-                actual: actual,
-            }),
+    // The zone afterwards.
+    pub fn after(self, z: Zone) -> Zone
+        ensures { λ r. ⌜ r ≡ steps.afterBy self z ⌝ }
+    {
+        match self {
+            Verdict::Refuses(_) => z,
+            Verdict::Tells(_) => z,
+            Verdict::Writes(figures) => z.with_figures(figures),
+            Verdict::Reports(status) => z.with_status(status),
+            Verdict::Adds(address, range) => Zone::new(address, range),
+            Verdict::Removes => z.emptied(),
         }
     }
 }
 
+// An addition at a zone; `held` says that some present zone holds the address.
+pub fn added(z: Zone, address: u32, range: u32, held: bool) -> Verdict
+    ensures { λ r. ⌜ steps.verdictSeen z r ≡ steps.judged z (addAt z address range held) ⌝ }
+{
+    if z.present {
+        return Verdict::Refuses(Refusal::AlreadyPresent);
+    }
+    if !(address_in_range(address) & range_known(range)) {
+        return Verdict::Refuses(Refusal::OutOfRange);
+    }
+    if held {
+        return Verdict::Refuses(Refusal::AddressHeld);
+    }
+    Verdict::Adds(address, range)
+}
+
+// A report at a zone.
+pub fn reported(z: Zone, state: u32, actual: u32) -> Verdict
+    ensures { λ r. ⌜ steps.verdictSeen z r ≡ steps.judged z (reportAt z state actual) ⌝ }
+{
+    if !((state <= 3) & actual_in_range(actual)) {
+        return Verdict::Refuses(Refusal::OutOfRange);
+    }
+    Verdict::Reports(Status {
+        state: State::numbered(state),
+        actual: actual,
+    })
+}
+
 // What a road brings, at a zone.
-pub fn heard(z: Zone, asked: Asked) -> Change
-    ensures { λ r. ⌜ changeSeen r ≡ judged z (askAt z asked) ⌝ }
+pub fn heard(z: Zone, asked: Asked) -> Verdict
+    ensures { λ r. ⌜ steps.verdictSeen z r ≡ steps.judged z (steps.askAt z asked) ⌝ }
 {
     match asked {
         Asked::Known(command) => commanded(z, command),
-        Asked::Refused(why) => refused(z, why),
+        Asked::Refused(why) => Verdict::Refuses(why),
     }
 }
 
 // A command at a zone.
-fn commanded(z: Zone, command: Command) -> Change
-    ensures { λ r. ⌜ changeSeen r ≡ judged z (commandAt z command) ⌝ }
+fn commanded(z: Zone, command: Command) -> Verdict
+    ensures { λ r. ⌜ steps.verdictSeen z r ≡ steps.judged z (commandAt z command) ⌝ }
 {
     match command {
-        Command::Read(group) => Change {
-            answer: Answer::Told(z.figures(group)),
-            after: z,
-        },
+        Command::Read(group) => Verdict::Tells(z.figures(group)),
         Command::Write(figures) => written(z, figures),
     }
 }
 
-fn written(z: Zone, figures: Figures) -> Change
-    ensures { λ r. ⌜ changeSeen r ≡ judged z (writeAt z figures) ⌝ }
+fn written(z: Zone, figures: Figures) -> Verdict
+    ensures { λ r. ⌜ steps.verdictSeen z r ≡ steps.judged z (writeAt z figures) ⌝ }
 {
-    let after = z.with_figures(figures);
     if !figures.in_range(z.range) {
-        return refused(z, Refusal::OutOfRange);
+        return Verdict::Refuses(Refusal::OutOfRange);
     }
     let status = z.status;
     let state = status.state;
     if state.locks(figures.group()) {
-        return refused(z, Refusal::Locked);
+        return Verdict::Refuses(Refusal::Locked);
     }
-    Change {
-        answer: Answer::Done,
-        after: after,
-    }
+    Verdict::Writes(figures)
 }

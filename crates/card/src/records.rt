@@ -2,10 +2,9 @@
 use crate::answers::Answer;
 use crate::answers::Refusal;
 use crate::judgements::Asked;
-use crate::judgements::Change;
+use crate::judgements::Verdict;
 use crate::judgements::added;
 use crate::judgements::heard;
-use crate::judgements::removed;
 use crate::judgements::reported;
 use zone::Command;
 use zone::Zone;
@@ -14,9 +13,9 @@ ghost use Prim.Native.Nat.{_<_};
 ghost use Rattle.zone.specs.Lists.{every, some};
 ghost use Rattle.zone.specs.Zones.{zoneSound, holds};
 ghost use Rattle.card.specs.Answers.{outcomeSeen};
-ghost use Rattle.card.specs.Records.{emptyRecord, differ, sound, findOf};
+ghost use Rattle.card.specs.Records.{emptyRecord, zoneAt, differ, sound, findOf};
 ghost use Rattle.card.specs.Calls.{addOf, removeOf, reportOf, applyOf};
-ghost use Rattle.card.specs.Steps.{reachOf, changeSeen, stored, askOf};
+ghost use Rattle.card.specs.Steps.{reachOf, verdictSeen, stored, askOf};
 
 pub struct Record {
     pub zones: [Zone; 16],
@@ -144,15 +143,15 @@ impl Record {
     }
 
     // The one place where a zone of the record is stored to.
-    fn changed(mut self, zone: usize, change: Change) -> Outcome
+    fn changed(mut self, zone: usize, verdict: Verdict) -> Outcome
         requires { ⌜ zone < 16 ⌝ }
-        ensures { λ r. ⌜ outcomeSeen r ≡ stored self zone (changeSeen change) ⌝ }
+        ensures { λ r. ⌜ outcomeSeen r ≡ stored self zone (verdictSeen (zoneAt self zone) verdict) ⌝ }
     {
-        let after = change.after;
-        let answer = change.answer;
+        let z = self.zones[zone];
+        let after = verdict.after(z);
         self.zones[zone] = after;
         Outcome {
-            answer: answer,
+            answer: verdict.answer(),
             after: self,
         }
     }
@@ -177,7 +176,7 @@ impl Record {
     {
         match self.reach(zone) {
             Reached::Stopped(why) => self.refused(why),
-            Reached::At(z) => self.changed(zone, removed(z)),
+            Reached::At(_) => self.changed(zone, Verdict::Removes),
         }
     }
 

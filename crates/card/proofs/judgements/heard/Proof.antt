@@ -8,7 +8,7 @@ returns : tie.Need-returns
 returns c = rw (c .before .before .asked .given .1) (c .commanded .ensures)
 
 returns-2 : tie.Need-returns-2
-returns-2 c = rw (c .before .before .asked2 .given .1, c .refused .ensures) (refused-judged (c .before .before .before .before .args .z) (c .before .before .asked2 .given .0 .0))
+returns-2 c = rw (c .before .asked2 .given .1) (refused-judged (c .before .before .before .args .z) (c .before .asked2 .given .0 .0))
 
 pub heard-spec : {M : Type 1} → statement M
 heard-spec =
@@ -17,6 +17,5 @@ heard-spec =
     (λ c. search needs)
     (λ c κs. search needs)
     (λ c. search needs)
-    (λ c κs. search needs)
     returns
     returns-2)

@@ -4,12 +4,10 @@ use Rattle.card.proofs.judgements.reported.Statement.{statement}
 use Rattle.card.proofs.judgements.reported.Tie as tie
 
 returns : tie.Need-returns
-returns c = rw (c .refused .ensures) (rw (← (c .before .before .actual-in-range .ensures), c .before .if1 .taken))
+returns c = rw (← (c .before .actual-in-range .ensures), c .if1 .taken)
 
 returns-2 : tie.Need-returns-2
-returns-2 c = rw (c .with-status .ensures, c .before .numbered .ensures) (rw (← (c .before .before .before .actual-in-range .ensures), c .before .before .if1 .left))
+returns-2 c = rw (c .numbered .ensures) (rw (← (c .before .before .actual-in-range .ensures), c .before .if1 .left))
 
 pub reported-spec : {M : Type 1} → statement M
-reported-spec =
-    tie.close
-    (tie.spec (λ c κs. search needs) (λ c κs. search needs) (λ c κs. search needs) (λ c κs. search needs) returns returns-2)
+reported-spec = tie.close (tie.spec (λ c κs. search needs) returns (λ c κs. search needs) returns-2)

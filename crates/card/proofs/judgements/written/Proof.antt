@@ -4,28 +4,17 @@ use Rattle.card.proofs.judgements.written.Statement.{statement}
 use Rattle.card.proofs.judgements.written.Tie as tie
 
 returns : tie.Need-returns
-returns c = rw (c .refused .ensures) (rw (← (c .before .before .in-range .ensures), c .before .if1 .taken))
+returns c = rw (← (c .before .in-range .ensures), c .if1 .taken)
 
 returns-2 : tie.Need-returns-2
 returns-2 c =
-    let p = c .before .before .before .before .before in
-    rw (c .refused2 .ensures) (rw (← (p .before .in-range .ensures), p .if1 .left, ← (c .before .before .before .group .ensures), ← (c .before .before .locks .ensures), c .before .if2 .taken))
+    let p = c .before .before .before .before in
+    rw (← (p .before .in-range .ensures), p .if1 .left, ← (c .before .before .group .ensures), ← (c .before .locks .ensures), c .if2 .taken)
 
 returns-3 : tie.Need-returns-3
 returns-3 c =
     let p = c .before .before .before .before in
-    rw (p .before .before .with-figures .ensures) (rw (← (p .before .in-range .ensures), p .if1 .left, ← (c .before .before .group .ensures), ← (c .before .locks .ensures), c .if2 .left))
+    rw (← (p .before .in-range .ensures), p .if1 .left, ← (c .before .before .group .ensures), ← (c .before .locks .ensures), c .if2 .left)
 
 pub written-spec : {M : Type 1} → statement M
-written-spec =
-    tie.close
-    (tie.spec
-    (λ c κs. search needs)
-    (λ c κs. search needs)
-    (λ c κs. search needs)
-    returns
-    (λ c κs. search needs)
-    (λ c κs. search needs)
-    (λ c κs. search needs)
-    returns-2
-    returns-3)
+written-spec = tie.close (tie.spec (λ c κs. search needs) returns (λ c κs. search needs) (λ c κs. search needs) returns-2 returns-3)

@@ -1,7 +1,7 @@
 -- Where the zone is reached it decides, and its decision is stored; where not, the call is refused for that reason.
-use mathlib.Core.Path.{sym, ap, _∙_}
+use mathlib.Core.Path.{sym, _∙_}
 use Rattle.card.specs.Records.{zoneAt}
-use Rattle.card.specs.Steps.{stored, askAt, askOf}
+use Rattle.card.specs.Steps.{verdictSeen, askAt, askOf}
 use Rattle.card.proofs.Steps.{stopped, reaches, at-zone}
 use borrow.Author.Needs.{needs}
 use Rattle.card.proofs.records.Record.ask.Statement.{statement}
@@ -23,8 +23,7 @@ returns-2 c =
     let p = c .before .before .before in
     let a = p .before .before .before .args in
     c .changed .ensures
-    ∙ ap (stored (a .self) (a .zone)) (c .before .heard .ensures)
-    ∙ at-zone _ _ _ (λ z. askAt z (a .asked)) (sym (p .before .before .reach .ensures) ∙ p .z .given .1)
+    ∙ at-zone _ _ _ (λ z. verdictSeen z (c .before .heard .result)) (λ z. askAt z (a .asked)) (sym (p .before .before .reach .ensures) ∙ p .z .given .1) (c .before .heard .ensures)
 
 pub ask-spec : {M : Type 1} → statement M
 ask-spec =

@@ -1,14 +1,15 @@
--- Where the zone is reached it decides, and its decision is stored; where not, the call is refused for that reason.
-use mathlib.Core.Path.{sym, ap, _∙_}
+-- Where the zone is reached it is emptied; where not, the call is refused for that reason.
+use mathlib.Core.Path.{refl, sym, _∙_}
+use Rattle.card.specs.declared.judgements.Verdict.the-variants.{Removes}
 use Rattle.card.specs.Calls.{removeAt, removeOf}
-use Rattle.card.specs.Steps.{stored}
+use Rattle.card.specs.Steps.{verdictSeen}
 use Rattle.card.proofs.Steps.{stopped, reaches, at-zone}
 use borrow.Author.Needs.{needs}
 use Rattle.card.proofs.records.Record.remove.Statement.{statement}
 use Rattle.card.proofs.records.Record.remove.Tie as tie
 
 changed-requires : tie.Need-changed-requires
-changed-requires c κs = reaches _ _ _ (sym (c .before .before .before .before .reach .ensures) ∙ c .before .before .z .given .1) .below
+changed-requires c κs = reaches _ _ _ (sym (c .before .before .reach .ensures) ∙ c .enum-told .given .1) .below
 
 returns : tie.Need-returns
 unfolding removeOf
@@ -19,11 +20,8 @@ returns c =
 returns-2 : tie.Need-returns-2
 unfolding removeOf
 returns-2 c =
-    let p = c .before .before .before in
-    let a = p .before .before .before .args in
     c .changed .ensures
-    ∙ ap (stored (a .self) (a .zone)) (c .before .removed .ensures)
-    ∙ at-zone _ _ _ (λ z. removeAt) (sym (p .before .before .reach .ensures) ∙ p .z .given .1)
+    ∙ at-zone _ _ _ (λ z. verdictSeen z Removes) (λ z. removeAt) (sym (c .before .before .before .reach .ensures) ∙ c .before .enum-told .given .1) refl
 
 pub remove-spec : {M : Type 1} → statement M
 remove-spec =
@@ -33,7 +31,6 @@ remove-spec =
     (λ c. search needs)
     (λ c κs. search needs)
     (λ c. search needs)
-    (λ c κs. search needs)
     changed-requires
     returns
     returns-2)

@@ -1,8 +1,8 @@
 -- Where the zone is reached it decides, and its decision is stored; where not, the call is refused for that reason.
-use mathlib.Core.Path.{sym, ap, _∙_}
+use mathlib.Core.Path.{sym, _∙_}
 use Rattle.card.specs.Records.{zoneAt}
 use Rattle.card.specs.Calls.{reportAt, reportOf}
-use Rattle.card.specs.Steps.{stored}
+use Rattle.card.specs.Steps.{verdictSeen}
 use Rattle.card.proofs.Steps.{stopped, reaches, at-zone}
 use borrow.Author.Needs.{needs}
 use Rattle.card.proofs.records.Record.report.Statement.{statement}
@@ -24,8 +24,7 @@ returns-2 c =
     let p = c .before .before .before in
     let a = p .before .before .before .args in
     c .changed .ensures
-    ∙ ap (stored (a .self) (a .zone)) (c .before .reported .ensures)
-    ∙ at-zone _ _ _ (λ z. reportAt z (a .state) (a .actual)) (sym (p .before .before .reach .ensures) ∙ p .z .given .1)
+    ∙ at-zone _ _ _ (λ z. verdictSeen z (c .before .reported .result)) (λ z. reportAt z (a .state) (a .actual)) (sym (p .before .before .reach .ensures) ∙ p .z .given .1) (c .before .reported .ensures)
 
 pub report-spec : {M : Type 1} → statement M
 report-spec =

@@ -1,0 +1,23 @@
+-- The triple's three numbers are what is asked; a triple that is none is unreadable.
+use mathlib.Core.Path.{sym, _∙_}
+use Rattle.journal.proofs.Fields.{reports-none, reports-triple}
+use borrow.Author.Needs.{needs}
+use Rattle.journal.proofs.asking.report.Statement.{statement}
+use Rattle.journal.proofs.asking.report.Tie as tie
+
+returns : tie.Need-returns
+returns c = rw (reports-triple _ _ _ _ (sym (c .before .before .before .three .ensures) ∙ c .before .zone .given .1))
+
+returns-2 : tie.Need-returns-2
+returns-2 c = rw (reports-none _ (sym (c .before .before .three .ensures) ∙ c .enum-told .given .1))
+
+pub report-spec : {M : Type 1} → statement M
+report-spec =
+    tie.close
+    (tie.spec
+    (λ c κs. search needs)
+    (λ c. search needs)
+    (λ c. search needs)
+    (λ c. search needs)
+    returns
+    returns-2)

@@ -1,0 +1,98 @@
+-- Before each turn no line feed stands between `from` and i, so that the search from i on finds what the search from `from` on does.
+use Prim.Native.Nat.{_+_, _-_, _≤_}
+use mathlib.Core.Path.{_≡_, refl, sym, _∙_}
+use native.Mathlib.Omega.{arith}
+use lib.ListN.{length, drop}
+use Rattle.bytes.specs.Bytes.{indexOf}
+use Rattle.journal.specs.Journal.{lineFeed}
+use Rattle.journal.proofs.Scans.{feed-here, feed-later, feed-nowhere}
+use borrow.Author.Needs.{needs}
+use Rattle.journal.proofs.blocks.line_end.Statement.{statement}
+use Rattle.journal.proofs.blocks.line_end.Tie as tie
+
+abbrev Inv-loop : tie.InvT-loop
+Inv-loop block from i₀ i = (i ≤ length block) × (from + indexOf lineFeed (drop from block) ≡ i + indexOf lineFeed (drop i block))
+
+abbrev μ-loop : tie.MeasureT-loop
+μ-loop block from i₀ i = length block - i
+
+loop-holds : tie.Need-loop-holds Inv-loop μ-loop
+loop-holds c = (search needs, refl)
+
+returns : tie.Need-returns Inv-loop μ-loop
+returns c =
+    let p = c .before .before .before in
+    sym (p .loop .inv .1 ∙ feed-here _ (p .loop .i) (c .before .before .loop-test .taken) (c .if1 .taken))
+
+loop-again : tie.Need-loop-again Inv-loop μ-loop
+loop-again c =
+    let p = c .before .before .before .before in
+    (omega arith, p .loop .inv .1 ∙ feed-later _ (p .loop .i) _ refl (c .before .before .before .loop-test .taken) (c .before .if1 .left))
+
+returns-2 : tie.Need-returns-2 Inv-loop μ-loop
+returns-2 c =
+    let p = c .before .before .before .before .before .before in
+    let i = p .loop .i in
+    let step = p .loop .inv .1 ∙ feed-later _ i (i + 1) refl (omega arith) (c .before .before .before .if1 .left) in
+    sym (step ∙ feed-here _ (i + 1) (omega arith) (c .if3 .taken))
+
+returns-3 : tie.Need-returns-3 Inv-loop μ-loop
+returns-3 c =
+    let p = c .before .before .before .before .before .before .before .before in
+    let i = p .loop .i in
+    let step = p .loop .inv .1 ∙ feed-later _ i (i + 1) refl (omega arith) (c .before .before .before .before .before .if1 .left) in
+    let step2 = step ∙ feed-later _ (i + 1) (i + 2) (omega arith) (omega arith) (c .before .before .if3 .left) in
+    sym (step2 ∙ feed-here _ (i + 2) (omega arith) (c .if4 .taken))
+
+returns-4 : tie.Need-returns-4 Inv-loop μ-loop
+returns-4 c =
+    let p = c .before .before .before .before .before .before .before .before .before .before in
+    let i = p .loop .i in
+    let step = p .loop .inv .1 ∙ feed-later _ i (i + 1) refl (omega arith) (c .before .before .before .before .before .before .before .if1 .left) in
+    let step2 = step ∙ feed-later _ (i + 1) (i + 2) (omega arith) (omega arith) (c .before .before .before .before .if3 .left) in
+    let step3 = step2 ∙ feed-later _ (i + 2) (i + 3) (omega arith) (omega arith) (c .before .before .if4 .left) in
+    sym (step3 ∙ feed-here _ (i + 3) (omega arith) (c .if5 .taken))
+
+loop-again-2 : tie.Need-loop-again-2 Inv-loop μ-loop
+loop-again-2 c =
+    let p = c .before .before .before .before .before .before .before .before .before .before in
+    let i = p .loop .i in
+    let step = p .loop .inv .1 ∙ feed-later _ i (i + 1) refl (omega arith) (c .before .before .before .before .before .before .before .if1 .left) in
+    let step2 = step ∙ feed-later _ (i + 1) (i + 2) (omega arith) (omega arith) (c .before .before .before .before .if3 .left) in
+    let step3 = step2 ∙ feed-later _ (i + 2) (i + 3) (omega arith) (omega arith) (c .before .before .if4 .left) in
+    (omega arith, step3 ∙ feed-later _ (i + 3) (i + 4) (omega arith) (omega arith) (c .if5 .left))
+
+returns-5 : tie.Need-returns-5 Inv-loop μ-loop
+returns-5 c =
+    let p = c .before in
+    sym (p .loop .inv .1 ∙ feed-nowhere _ (p .loop .i) (c .loop-test .left))
+
+pub line-end-spec : {M : Type 1} → statement M
+line-end-spec =
+    tie.close
+    (tie.spec
+    Inv-loop
+    μ-loop
+    loop-holds
+    (λ c. search needs)
+    returns
+    (λ c. search needs)
+    (λ c. search needs)
+    (λ c. search needs)
+    loop-again
+    (λ c. search needs)
+    (λ c. search needs)
+    (λ c. search needs)
+    returns-2
+    (λ c. search needs)
+    (λ c. search needs)
+    (λ c. search needs)
+    returns-3
+    (λ c. search needs)
+    (λ c. search needs)
+    (λ c. search needs)
+    returns-4
+    (λ c. search needs)
+    (λ c. search needs)
+    loop-again-2
+    returns-5)

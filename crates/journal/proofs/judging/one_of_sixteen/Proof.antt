@@ -1,0 +1,18 @@
+-- The test is the definition's.
+use borrow.Author.Tests.{lt-ltb, le-ltb}
+use borrow.Author.Needs.{needs}
+use Rattle.journal.proofs.judging.one_of_sixteen.Statement.{statement}
+use Rattle.journal.proofs.judging.one_of_sixteen.Tie as tie
+
+returns : tie.Need-returns
+returns c = rw (lt-ltb _ _ (c .if1 .taken))
+
+returns-2 : tie.Need-returns-2
+returns-2 c = rw (le-ltb _ _ (c .if1 .left))
+
+pub one-of-sixteen-spec : {M : Type 1} → statement M
+one-of-sixteen-spec =
+    tie.close
+    (tie.spec
+    returns
+    returns-2)

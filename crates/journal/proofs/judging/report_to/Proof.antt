@@ -1,0 +1,19 @@
+-- A missing zone is refused; else it decides.
+use borrow.Author.Needs.{needs}
+use Rattle.journal.proofs.judging.report_to.Statement.{statement}
+use Rattle.journal.proofs.judging.report_to.Tie as tie
+
+returns : tie.Need-returns
+returns c = rw (← (c .before .is-missing .ensures), c .if1 .taken)
+
+returns-2 : tie.Need-returns-2
+returns-2 c = rw (← (c .before .before .is-missing .ensures), c .before .if1 .left) (c .reported .ensures)
+
+pub report-to-spec : {M : Type 1} → statement M
+report-to-spec =
+    tie.close
+    (tie.spec
+    (λ c κs. search needs)
+    returns
+    (λ c κs. search needs)
+    returns-2)

@@ -1,0 +1,12 @@
+-- The table is the definition's, computed for each of the 256 bytes.
+use mathlib.Core.Path.{refl}
+use Rattle.journal.specs.Steps.{digitValues}
+use Rattle.journal.proofs.numbers.digit_values.Statement.{statement}
+use Rattle.journal.proofs.numbers.digit_values.Tie as tie
+
+returns : tie.Need-returns
+unfolding digitValues
+returns c = refl
+
+pub digit-values-spec : {M : Type 1} → statement M
+digit-values-spec = tie.close (tie.spec returns)

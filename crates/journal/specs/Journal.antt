@@ -1,0 +1,71 @@
+-- What a line of the log yields, and what it leaves: a line and a record give the output line and the record afterwards.
+use Prim.Native.Nat.{ℕ}
+use mathlib.Core.List.{List, [], _∷_, _++_}
+use lib.ListN.{replicate}
+use Rattle.card.specs.declared.records.Record.{Record}
+use Rattle.roads.specs.Calls.{Answered, replyIn}
+use Rattle.session.specs.Sessions.{Call, text, frame, add, remove, report, answerTo}
+use Rattle.journal.specs.Numbers.{inDecimal, inHex}
+use Rattle.journal.specs.Lines.{Asks, adds, removes, reports, says, frames, unreadable, N, X, M, T, F, E, tab, asksOf}
+
+abbrev pub lineFeed : ℕ
+lineFeed = 10
+
+-- "Room is always 32"; what the room held before is not shown
+abbrev pub lent : List ℕ
+lent = replicate 32 0
+
+-- "the reply .. or "-""
+abbrev pub orDash : List ℕ → List ℕ
+orDash [] = 45 ∷ []
+orDash (x ∷ reply) = x ∷ reply
+
+-- "its letter, the number, and the reply .. parted by tabs"
+abbrev pub outputLine : ℕ → ℕ → List ℕ → List ℕ
+outputLine letter number reply = letter ∷ tab ∷ (inDecimal number ++ (tab ∷ (orDash reply ++ (lineFeed ∷ []))))
+
+pub record Yield : Type 0 where
+  pub output : List ℕ
+  pub after : Record
+
+-- what the card answered, under its letter
+abbrev pub shown : ℕ → Answered → Yield
+shown letter a = record { output = outputLine letter (a .said .number) (replyIn (a .said)); after = a .after }
+
+-- "an F reply in capital hex"
+abbrev pub shownInHex : ℕ → Answered → Yield
+shownInHex letter a = record { output = outputLine letter (a .said .number) (inHex (replyIn (a .said))); after = a .after }
+
+-- each letter is a call of the card; "an unreadable line yields E, 13, "-"", and is "skipped whole"
+abbrev pub yieldOf : Record → Asks → Yield
+yieldOf r (adds zone address range) = shown N (answerTo r (add zone address range))
+yieldOf r (removes zone) = shown X (answerTo r (remove zone))
+yieldOf r (reports zone state actual) = shown M (answerTo r (report zone state actual))
+yieldOf r (says zone line) = shown T (answerTo r (text zone line lent))
+yieldOf r (frames bytes) = shownInHex F (answerTo r (frame bytes lent))
+yieldOf r unreadable = record { output = outputLine E 13 []; after = r }
+
+-- what a line does
+unfoldable pub lineYields : Record → List ℕ → Yield
+lineYields r line = yieldOf r (asksOf line)
+
+-- what lines do, one after the other
+unfoldable pub linesYield : Record → List (List ℕ) → Yield
+linesYield r [] = record { output = []; after = r }
+linesYield r (line ∷ lines) = record {
+  output = lineYields r line .output ++ linesYield (lineYields r line .after) lines .output;
+  after = linesYield (lineYields r line .after) lines .after;
+}
+
+-- the calls that lines make of the card: one each, and none where a line is unreadable. So a log is a session (is-session, in proofs/Cuts.antt), and what is proved of every session holds of every log
+abbrev pub callOf : Asks → List Call
+callOf (adds zone address range) = add zone address range ∷ []
+callOf (removes zone) = remove zone ∷ []
+callOf (reports zone state actual) = report zone state actual ∷ []
+callOf (says zone line) = text zone line lent ∷ []
+callOf (frames bytes) = frame bytes lent ∷ []
+callOf unreadable = []
+
+abbrev pub callsIn : List (List ℕ) → List Call
+callsIn [] = []
+callsIn (line ∷ lines) = callOf (asksOf line) ++ callsIn lines

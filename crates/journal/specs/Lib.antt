@@ -1,0 +1,6 @@
+-- The log: document 01, "The log program". Start with Lines, then Numbers, Journal and Blocks.
+pub mod Numbers
+pub mod Lines
+pub mod Journal
+pub mod Blocks
+pub mod Steps

@@ -1,0 +1,206 @@
+-- What the functions on the way come to. No rule of document 01 stands here: what a line does is said in Journal.
+use Prim.Native.Nat.{ℕ, zero, suc, _+_, _-_, _*_, _≤_}
+use mathlib.Core.Path.{_≡_}
+use mathlib.Core.Bool.{Bool, true, false, cond, not, _||_}
+use mathlib.Core.List.{List, [], _∷_}
+use lib.ListN.{length, getD, take, drop}
+use lib.Dec.{leb, ltb, eqb}
+use Rattle.bytes.specs.Bytes.{indexOf}
+use Rattle.zone.specs.declared.figures.Figures.{Figures}
+use Rattle.zone.specs.Lists.{within}
+use Rattle.zone.specs.declared.zones.Zone.{Zone}
+use Rattle.card.specs.declared.answers.Refusal.{Refusal}
+use Rattle.card.specs.declared.answers.Refusal.the-variants as refusal
+use Rattle.card.specs.declared.judgements.Asked.{Asked}
+use Rattle.card.specs.declared.judgements.Asked.the-variants.{Refused}
+use Rattle.card.specs.declared.records.Record.{Record}
+use Rattle.card.specs.declared.records.Found.{Found}
+use Rattle.card.specs.declared.records.Found.the-variants.{At, Nowhere}
+use Rattle.card.specs.Answers.{Result}
+use Rattle.card.specs.Refusals.{Row, _gives_}
+use Rattle.card.specs.Records.{findOf}
+use Rattle.card.specs.Calls.{Judgement, addAt, removeAt, reportAt}
+use Rattle.card.specs.Steps.{askAt}
+use Rattle.wire.specs.declared.Figure.{Figure}
+use Rattle.wire.specs.declared.Figure.the-variants.{Value, Bad}
+use Rattle.wire.specs.declared.Parsed.{Parsed}
+use Rattle.wire.specs.Road.{Numbers, are, none}
+use Rattle.line.specs.Line.{lineRead}
+use Rattle.frame.specs.declared.reading.Framed.{Framed}
+use Rattle.frame.specs.declared.reading.Framed.the-variants.{NoFrame, Checksum, Request}
+use Rattle.frame.specs.Frame.{frameRead}
+use Rattle.roads.specs.Acknowledgements.{textReply, frameReply}
+use Rattle.roads.specs.Calls.{isNowhere, zoneFound}
+use Rattle.roads.specs.Steps.{askedBy}
+use Rattle.journal.specs.declared.numbers.Numeral.{Numeral}
+use Rattle.journal.specs.declared.numbers.Numeral.the-variants as numeral
+use Rattle.journal.specs.declared.numbers.Count.{Count}
+use Rattle.journal.specs.declared.numbers.Count.the-variants as count
+use Rattle.journal.specs.declared.asking.Triple.{Triple}
+use Rattle.journal.specs.declared.asking.Triple.the-variants as triple
+use Rattle.journal.specs.declared.asking.Entry.{Entry}
+use Rattle.journal.specs.declared.asking.Entry.the-variants.{Add, Remove, Report, Text, Frame, Unreadable}
+use Rattle.journal.specs.declared.judging.Sought.{Sought}
+use Rattle.journal.specs.declared.judging.Sought.the-variants.{Nobody, Address}
+use Rattle.journal.specs.declared.blocks.Done.{Done}
+use Rattle.journal.specs.declared.blocks.Kept.{Kept}
+use Rattle.journal.specs.Numbers.{decimalOf, inHex}
+use Rattle.journal.specs.Lines.{Asks, adds, removes, reports, says, frames, unreadable, N, X, M, T, F, E, tab, field}
+use Rattle.journal.specs.Journal.{outputLine, linesYield}
+use Rattle.journal.specs.Blocks.{ended, begun, Fed}
+
+-- ---- reading
+
+-- a decimal that ends before index `end`
+abbrev pub numeralOf : Figure → ℕ → Numeral
+numeralOf Bad end = numeral.Bad
+numeralOf (Value n) end = numeral.Is n end
+
+-- the decimal behind a tab at index `at`
+unfoldable pub numeralAt : List ℕ → ℕ → Numeral
+numeralAt l at = cond (eqb (getD l at 0) tab) (numeralOf (decimalOf (field (drop (at + 1) l))) (at + 1 + indexOf tab (drop (at + 1) l))) numeral.Bad
+
+-- what each byte is as a digit: its value, or 16 where it is none
+abbrev pub digitValue : ℕ → ℕ
+digitValue d = cond (within 48 57 d) (d - 48) (cond (within 65 70 d) (d - 55) 16)
+
+abbrev pub valuesFrom : ℕ → ℕ → List ℕ
+valuesFrom d zero = []
+valuesFrom d (suc k) = digitValue d ∷ valuesFrom (suc d) k
+
+-- the same for each of the 256 bytes, as a table
+unfoldable pub digitValues : List ℕ
+digitValues = valuesFrom 0 256
+
+-- the bytes that pairs of digits made, at the front of a room
+abbrev pub counted : Count → List ℕ → Numbers
+counted count.Bad room = none
+counted (count.Of n) room = are (take n room)
+
+abbrev pub countOf : Count → ℕ
+countOf count.Bad = 0
+countOf (count.Of n) = n
+
+abbrev pub tripleOf : Numbers → Triple
+tripleOf none = triple.Bad
+tripleOf (are ns) = triple.Are (getD ns 0 0) (getD ns 1 0) (getD ns 2 0)
+
+-- what is asked, a line or a frame being read already
+abbrev pub entryOf : Asks → Entry
+entryOf (adds zone address range) = Add zone address range
+entryOf (removes zone) = Remove zone
+entryOf (reports zone state actual) = Report zone state actual
+entryOf (says zone line) = Text zone (lineRead line)
+entryOf (frames bytes) = Frame (frameRead bytes)
+entryOf unreadable = Unreadable
+
+-- ---- judging
+
+-- the address that is to be looked up
+abbrev pub frameSought : Framed → Sought
+frameSought NoFrame = Nobody
+frameSought (Checksum address) = Address address
+frameSought (Request address parsed) = Address address
+
+abbrev pub soughtOf : Entry → Sought
+soughtOf (Add zone address range) = Address address
+soughtOf (Remove zone) = Nobody
+soughtOf (Report zone state actual) = Nobody
+soughtOf (Text zone parsed) = Nobody
+soughtOf (Frame framed) = frameSought framed
+soughtOf Unreadable = Nobody
+
+abbrev pub lookUp : Record → Sought → Found
+lookUp r Nobody = Nowhere
+lookUp r (Address address) = findOf r address
+
+-- the zone that is looked at: zone n or, where n is none, the last, which then stays as it is
+abbrev pub oneOfSixteen : ℕ → ℕ
+oneOfSixteen n = cond (ltb n 16) n 15
+
+abbrev pub placeOf : Entry → Found → ℕ
+placeOf (Add zone address range) found = oneOfSixteen zone
+placeOf (Remove zone) found = oneOfSixteen zone
+placeOf (Report zone state actual) found = oneOfSixteen zone
+placeOf (Text zone parsed) found = oneOfSixteen zone
+placeOf (Frame framed) found = oneOfSixteen (zoneFound found)
+placeOf Unreadable found = 15
+
+-- a judgement behind further refusals
+abbrev pub unless : List Row → Judgement → Judgement
+unless [] j = j
+unless (row ∷ rows) j = record { rows = row ∷ unless rows j .rows; values = unless rows j .values; after = unless rows j .after }
+
+abbrev pub missing : Zone → ℕ → Bool
+missing z n = leb 16 n || not (z .present)
+
+-- what a line brings to a zone, and what a frame brings to the zone that holds its address
+abbrev pub askedOf : Zone → ℕ → Parsed → Asked
+askedOf z n parsed = cond (missing z n) (Refused refusal.NoZone) (askedBy parsed)
+
+abbrev pub askedOfHolder : Found → Asked → Asked
+askedOfHolder (At n) asked = asked
+askedOfHolder Nowhere asked = Refused refusal.NobodyHolds
+
+abbrev pub askedFramed : Framed → Found → Asked
+askedFramed NoFrame found = Refused refusal.NoFrame
+askedFramed (Checksum address) found = askedOfHolder found (Refused refusal.Checksum)
+askedFramed (Request address parsed) found = askedOfHolder found (askedBy parsed)
+
+-- what an entry comes to at the zone that is looked at; `fit` says that the record is sound
+abbrev pub entryJudged : Bool → Entry → Found → Zone → Judgement
+entryJudged fit (Add n address range) found z = unless ((not fit gives 2) ∷ (leb 16 n gives 3) ∷ []) (addAt z address range (not (isNowhere found)))
+entryJudged fit (Remove n) found z = unless ((not fit gives 2) ∷ (missing z n gives 3) ∷ []) removeAt
+entryJudged fit (Report n state actual) found z = unless ((not fit gives 2) ∷ (missing z n gives 3) ∷ []) (reportAt z state actual)
+entryJudged fit (Text n parsed) found z = unless ((not fit gives 2) ∷ []) (askAt z (askedOf z n parsed))
+entryJudged fit (Frame framed) found z = unless ((not fit gives 2) ∷ []) (askAt z (askedFramed framed found))
+entryJudged fit Unreadable found z = askAt z (Refused refusal.Unreadable)
+
+-- how an entry is refused where the record is not sound
+abbrev pub unfitOf : Entry → Refusal
+unfitOf (Add zone address range) = refusal.NotSound
+unfitOf (Remove zone) = refusal.NotSound
+unfitOf (Report zone state actual) = refusal.NotSound
+unfitOf (Text zone parsed) = refusal.NotSound
+unfitOf (Frame framed) = refusal.NotSound
+unfitOf Unreadable = refusal.Unreadable
+
+-- ---- writing
+
+abbrev pub letterOf : Entry → ℕ
+letterOf (Add zone address range) = N
+letterOf (Remove zone) = X
+letterOf (Report zone state actual) = M
+letterOf (Text zone parsed) = T
+letterOf (Frame framed) = F
+letterOf Unreadable = E
+
+abbrev pub frameReplied : Framed → ℕ → List Figures → List ℕ
+frameReplied NoFrame number values = []
+frameReplied (Checksum address) number values = inHex (frameReply address number values)
+frameReplied (Request address parsed) number values = inHex (frameReply address number values)
+
+abbrev pub replyOf : Entry → ℕ → List Figures → List ℕ
+replyOf (Add zone address range) number values = []
+replyOf (Remove zone) number values = []
+replyOf (Report zone state actual) number values = []
+replyOf (Text zone parsed) number values = textReply number values
+replyOf (Frame framed) number values = frameReplied framed number values
+replyOf Unreadable number values = []
+
+unfoldable pub outputOf : Entry → ℕ → List Figures → List ℕ
+outputOf entry number values = outputLine (letterOf entry) number (replyOf entry number values)
+
+-- ---- blocks
+
+-- the ended lines of a block were answered: the output, the record, and where the line under way begins
+pub record Worked (given : Record) (block out : List ℕ) (o : Done) : Type 0 where
+  pub output : take (o .filled) out ≡ linesYield given (ended block) .output
+  pub after : o .after ≡ linesYield given (ended block) .after
+  pub rest : drop (o .taken) block ≡ begun block
+  pub taken-fits : o .taken ≤ length block
+  pub filled-fits : o .filled ≤ 40 * length block
+
+-- what is seen of a block that was worked on: the output at the front of one buffer, what is held at the front of the other
+abbrev pub keptSeen : Kept → List ℕ → List ℕ → Fed
+keptSeen o out buffer = record { output = take (o .filled) out; after = o .after; held = take (o .held) buffer }

@@ -1,0 +1,363 @@
+// The log's numbers: decimals, and bytes in capital hexadecimal digits.
+use wire::Figure;
+ghost use mathlib.Core.Path.{_≡_};
+ghost use Prim.Native.Nat.{_≤_, _<_};
+ghost use lib.ListN.{length};
+ghost use Rattle.wire.specs.Room.{Filled};
+ghost use Rattle.journal.specs.Numbers.{decimalOf, bytesRead, inHex, hexDigit};
+ghost use Rattle.journal.specs.Steps.{numeralAt, digitValues, counted, countOf};
+
+// A decimal, and the index behind it.
+pub enum Numeral {
+    Is(u32, usize),
+    Bad,
+}
+
+// The number of a field: no leading zeros and at most 5 digits.
+fn decimal(field: &[u8]) -> Figure
+    ensures { λ r. ⌜ r ≡ decimalOf (now (field .entry)) ⌝ }
+{
+    if field.len() < 1 {
+        return Figure::Bad;
+    }
+    if 5 < field.len() {
+        return Figure::Bad;
+    }
+    if (field[0] == b'0') & (1 < field.len()) {
+        return Figure::Bad;
+    }
+    line::digits(field, field.len())
+}
+
+// The decimal behind the tab at `at`.
+pub fn behind_tab(line: &[u8], at: usize) -> Numeral
+    ensures { λ r. ⌜ r ≡ numeralAt (now (line .entry)) at ⌝ }
+{
+    if line.len() <= at {
+        return Numeral::Bad;
+    }
+    if line[at] != b'\t' {
+        return Numeral::Bad;
+    }
+    let start = at + 1;
+    let end = bytes::scan::find(line, start, line.len(), b'\t');
+    match decimal(&line[start..end]) {
+        Figure::Value(value) => Numeral::Is(value, end),
+        Figure::Bad => Numeral::Bad,
+    }
+}
+
+// How many bytes the digits made.
+pub enum Count {
+    Of(usize),
+    Bad,
+}
+
+// What each byte is as a digit: its value, or 16 where it is none.
+pub fn digit_values() -> [u8; 256]
+    ensures { λ r. ⌜ r ≡ digitValues ⌝ }
+{
+    [
+        16,
+        16,
+        16,
+        16,
+        16,
+        16,
+        16,
+        16,
+        16,
+        16,
+        16,
+        16,
+        16,
+        16,
+        16,
+        16,
+        16,
+        16,
+        16,
+        16,
+        16,
+        16,
+        16,
+        16,
+        16,
+        16,
+        16,
+        16,
+        16,
+        16,
+        16,
+        16,
+        16,
+        16,
+        16,
+        16,
+        16,
+        16,
+        16,
+        16,
+        16,
+        16,
+        16,
+        16,
+        16,
+        16,
+        16,
+        16,
+        0,
+        1,
+        2,
+        3,
+        4,
+        5,
+        6,
+        7,
+        8,
+        9,
+        16,
+        16,
+        16,
+        16,
+        16,
+        16,
+        16,
+        10,
+        11,
+        12,
+        13,
+        14,
+        15,
+        16,
+        16,
+        16,
+        16,
+        16,
+        16,
+        16,
+        16,
+        16,
+        16,
+        16,
+        16,
+        16,
+        16,
+        16,
+        16,
+        16,
+        16,
+        16,
+        16,
+        16,
+        16,
+        16,
+        16,
+        16,
+        16,
+        16,
+        16,
+        16,
+        16,
+        16,
+        16,
+        16,
+        16,
+        16,
+        16,
+        16,
+        16,
+        16,
+        16,
+        16,
+        16,
+        16,
+        16,
+        16,
+        16,
+        16,
+        16,
+        16,
+        16,
+        16,
+        16,
+        16,
+        16,
+        16,
+        16,
+        16,
+        16,
+        16,
+        16,
+        16,
+        16,
+        16,
+        16,
+        16,
+        16,
+        16,
+        16,
+        16,
+        16,
+        16,
+        16,
+        16,
+        16,
+        16,
+        16,
+        16,
+        16,
+        16,
+        16,
+        16,
+        16,
+        16,
+        16,
+        16,
+        16,
+        16,
+        16,
+        16,
+        16,
+        16,
+        16,
+        16,
+        16,
+        16,
+        16,
+        16,
+        16,
+        16,
+        16,
+        16,
+        16,
+        16,
+        16,
+        16,
+        16,
+        16,
+        16,
+        16,
+        16,
+        16,
+        16,
+        16,
+        16,
+        16,
+        16,
+        16,
+        16,
+        16,
+        16,
+        16,
+        16,
+        16,
+        16,
+        16,
+        16,
+        16,
+        16,
+        16,
+        16,
+        16,
+        16,
+        16,
+        16,
+        16,
+        16,
+        16,
+        16,
+        16,
+        16,
+        16,
+        16,
+        16,
+        16,
+        16,
+        16,
+        16,
+        16,
+        16,
+        16,
+        16,
+        16,
+        16,
+        16,
+        16,
+        16,
+        16,
+        16,
+        16,
+        16,
+        16,
+        16,
+        16,
+        16,
+        16,
+        16,
+        16,
+        16,
+        16,
+        16,
+        16,
+        16,
+        16,
+        16,
+        16,
+        16,
+        16,
+        16,
+        16,
+        16,
+        16,
+        16,
+        16,
+        16,
+        16,
+    ]
+}
+
+// The bytes of pairs of digits, put at the front of the room.
+pub fn unhex(digits: &[u8], values: &[u8; 256], room: &mut [u8]) -> Count
+    requires { ⌜ (length (now digits) ≤ 522) × (now values ≡ digitValues) × (261 ≤ length (now room)) ⌝ }
+    ensures { λ r. ⌜ counted r (now (room .exit)) ≡ bytesRead (now (digits .entry)) ⌝ }
+    ensures { λ r. ⌜ countOf r ≤ 261 ⌝ }
+{
+    if digits.len() % 2 != 0 {
+        return Count::Bad;
+    }
+    let n = digits.len() / 2;
+    let mut i: usize = 0;
+    while i < n {
+        let high = values[digits[2 * i] as usize];
+        let low = values[digits[2 * i + 1] as usize];
+        if (15 < high) | (15 < low) {
+            return Count::Bad;
+        }
+        room[i] = high * 16 + low;
+        i += 1;
+    }
+    Count::Of(n)
+}
+
+fn digit(n: u8) -> u8
+    requires { ⌜ n < 16 ⌝ }
+    ensures { λ r. ⌜ r ≡ hexDigit n ⌝ }
+{
+    if n < 10 { 48 + n } else { 55 + n }
+}
+
+// The digits of bytes, put at the front of the room.
+pub fn put_hex(src: &[u8], room: &mut [u8]) -> usize
+    requires { ⌜ (length (now src) ≤ 16) × (32 ≤ length (now room)) ⌝ }
+    ensures { λ r. ⌜ Filled (inHex (now (src .entry))) (now (room .entry)) (now (room .exit)) r ⌝ }
+{
+    let mut i: usize = 0;
+    while i < src.len() {
+        let b = src[i];
+        room[2 * i] = digit(b / 16);
+        room[2 * i + 1] = digit(b % 16);
+        i += 1;
+    }
+    2 * i
+}
