@@ -5,3 +5,4 @@ pub mod Judged
 pub mod Scans
 pub mod Outputs
 pub mod Texts
+pub mod Cuts

@@ -1,0 +1,93 @@
+#!/bin/sh
+# The speed of the proved log program beside that of the C program of this folder, with and without the test of the
+# record's soundness that answer 2 demands.
+#
+#     sh bench/speed.sh PROGRAM FOLDER [ROUNDS]
+#
+# PROGRAM is the proved program, FOLDER takes what is built and written; the two logs stay there for the next time. The
+# programs take turns. A run reads the log from a file and writes to /dev/null, and its time is its processor time,
+# which other work on the machine disturbs least; elapsed times are printed beside it. The outputs are compared first.
+set -u
+
+here=$(cd "$(dirname "$0")" && pwd -P) || exit 1
+. "$here/tools.sh"
+
+[ $# -ge 2 ] || bench_fail "usage: speed.sh PROGRAM FOLDER [ROUNDS]"
+program=$1 folder=$2 rounds=${3:-7}
+[ -f "$program" ] || bench_fail "there is no program $program"
+case $program in */*) ;; *) program=./$program ;; esac
+
+bench_find
+mkdir -p "$folder" || exit 1
+bench_build "$here/card.c" "$folder/card-test" -DTEST_SOUND=1
+bench_build "$here/card.c" "$folder/card-plain" -DTEST_SOUND=0
+bench_build "$here/logs.c" "$folder/logs"
+bench_build "$here/timed.c" "$folder/timed"
+
+# A log of so many lines, made once for each generator.
+bench_log() { # LINES
+    made=$folder/bench-$1.$(cksum <"$here/logs.c" | cut -d ' ' -f 1)
+    if [ ! -f "$made" ]; then
+        rm -f "$folder/bench-$1".*
+        bench_run "$folder/logs" 2 "$1" bench >"$folder/making" && mv "$folder/making" "$made" ||
+            bench_fail "the log of $1 lines cannot be made"
+    fi
+}
+bench_log 1000000
+small=$made
+bench_log 4000000
+large=$made
+
+# The outputs first.
+for log in "$small" "$large"; do
+    bench_run "$folder/card-test" <"$log" >"$folder/speed.c" || bench_fail "the C program with the test failed"
+    bench_run "$folder/card-plain" <"$log" >"$folder/speed.plain" || bench_fail "the C program without the test failed"
+    bench_run "$program" <"$log" >"$folder/speed.proved" || bench_fail "the proved program failed"
+    cmp "$folder/speed.c" "$folder/speed.plain" && cmp "$folder/speed.c" "$folder/speed.proved" ||
+        bench_fail "the outputs differ"
+done
+rm -f "$folder/speed.c" "$folder/speed.plain" "$folder/speed.proved"
+
+measure() { # NAME PROGRAM LOG
+    bench_timed "$folder/timed" "$3" /dev/null "$2" >>"$folder/times-$1" || bench_fail "$2 failed under the clock"
+}
+
+rm -f "$folder"/times-*
+round=0
+while [ "$round" -lt "$rounds" ]; do
+    measure proved "$program" "$small"
+    measure test "$folder/card-test" "$small"
+    measure plain "$folder/card-plain" "$small"
+    measure large "$program" "$large"
+    round=$((round + 1))
+done
+
+# The median of a column of a program's times: 1 processor time, 2 elapsed time, both in microseconds, 3 peak in KiB.
+median() { # NAME COLUMN
+    cut -d ' ' -f "$2" "$folder/times-$1" | sort -n |
+        awk '{ v[NR] = $1 } END { print NR % 2 ? v[(NR + 1) / 2] : int((v[NR / 2] + v[NR / 2 + 1]) / 2) }'
+}
+
+row() { # NAME LINES WHAT-IT-IS
+    awk -v lines="$2" -v what="$3" -v cpu="$(median "$1" 1)" -v elapsed="$(median "$1" 2)" 'BEGIN {
+        printf "%-24s %8d lines  %9.0f lines/s  %7.1f ms processor  %7.1f ms elapsed\n",
+            what, lines, 1e6 * lines / cpu, cpu / 1000, elapsed / 1000
+    }'
+}
+
+ratio() { # NAME NAME
+    awk -v a="$(median "$1" 1)" -v b="$(median "$2" 1)" 'BEGIN { printf "%.2f", a / b }'
+}
+
+[ -z "$bench_emulator" ] ||
+    printf 'not an x86-64: all programs ran under the emulator, whose time and memory are counted\n'
+printf 'medians of %s rounds in turn:\n' "$rounds"
+row proved 1000000 'proved program'
+row test 1000000 'C, testing soundness'
+row plain 1000000 'C, no test'
+row large 4000000 'proved program'
+printf 'time of the proved program, C = 1: %s (C testing soundness), %s (C without the test)\n' \
+    "$(ratio proved test)" "$(ratio proved plain)"
+printf 'time of the proved program, 1000000 lines = 1: %s (4000000 lines)\n' "$(ratio large proved)"
+printf 'proved program, peak memory: %s KiB for 1000000 lines, %s KiB for 4000000\n' \
+    "$(median proved 3)" "$(median large 3)"

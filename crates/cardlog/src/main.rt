@@ -1,0 +1,105 @@
+// The log program: reads a log on standard input to its end, and writes a line for each of its lines.
+//
+// What is written is the journal's business, and proved there. Here blocks are read, handed to
+// the journal behind what it held of the block before, and its output is written. What is read and
+// written no contract can say; docs/PROMISES.md says how it is tested.
+use card::Record;
+ghost use mathlib.Core.Path.{_≡_};
+ghost use Prim.Native.Nat.{_≤_, _<_};
+ghost use lib.ListN.{length, take};
+ghost use Rattle.journal.specs.Blocks.{closed};
+
+// What is kept between two blocks, and whether to go on.
+struct Between {
+    after: Record,
+    held: usize,
+    more: bool,
+}
+
+// At the end of the input the line under way gets the line feed that it lacks.
+fn close(buffer: &mut [u8], held: usize) -> usize
+    requires { ⌜ held < length (now buffer) ⌝ }
+    ensures { λ r. ⌜ take r (now (buffer .exit)) ≡ closed (take held (now (buffer .entry))) ⌝ }
+    ensures { λ r. ⌜ r ≤ length (now (buffer .entry)) ⌝ }
+{
+    if held == 0 {
+        return 0;
+    }
+    buffer[held] = b'\n';
+    held + 1
+}
+
+// Works on what the buffer holds up to `end`, and writes the output. Where it cannot be written, that is the end.
+fn answer(r: Record, buffer: &mut [u8], end: usize, out: &mut [u8], more: bool) -> Between
+    requires { ⌜ (end ≤ 16384) × (length (now buffer) ≡ 16384) × (length (now out) ≡ 655360) ⌝ }
+    ensures { λ b. ⌜ b .held ≤ 601 ⌝ }
+{
+    let kept = journal::feed(r, buffer, end, out);
+    let filled = kept.filled;
+    let after = kept.after;
+    let held = kept.held;
+    if io::write_all(1, &out[0..filled]) {
+        return Between {
+            after: after,
+            held: held,
+            more: more,
+        };
+    }
+    io::write_all(2, b"cardlog: the output cannot be written\n");
+    Between {
+        after: after,
+        held: held,
+        more: false,
+    }
+}
+
+// One block. A read that fails ends the program, and the line under way is not answered: it may be the half of one.
+fn turn(before: Between, buffer: &mut [u8], out: &mut [u8]) -> Between
+    requires { ⌜ (before .held ≤ 601) × (length (now buffer) ≡ 16384) × (length (now out) ≡ 655360) ⌝ }
+    ensures { λ b. ⌜ b .held ≤ 601 ⌝ }
+{
+    let r = before.after;
+    let held = before.held;
+    let got = libc::read(0, &mut buffer[held..]);
+    if got < 0 {
+        io::write_all(2, b"cardlog: the input cannot be read\n");
+        return Between {
+            after: r,
+            held: held,
+            more: false,
+        };
+    }
+    let count = io::count(got, &buffer[held..]);
+    if count == 0 {
+        let end = close(buffer, held);
+        return answer(r, buffer, end, out, false);
+    }
+    answer(r, buffer, held + count, out, true)
+}
+
+// Block after block, to the end of the input. A proved loop ends, and nothing says that the input does: the turns
+// are counted down from a number that no input uses up.
+fn run(buffer: &mut [u8], out: &mut [u8])
+    requires { ⌜ (length (now buffer) ≡ 16384) × (length (now out) ≡ 655360) ⌝ }
+{
+    let mut now = Between {
+        after: Record::empty(),
+        held: 0,
+        more: true,
+    };
+    let mut turns = u64::MAX;
+    while turns > 0 {
+        if !now.more {
+            return;
+        }
+        now = turn(now, buffer, out);
+        turns -= 1;
+    }
+}
+
+// The output has room for 40 bytes for each byte of the buffer, since the shortest line is its line feed alone.
+fn main() {
+    let mut buffer = [0u8; 16384];
+    let mut out = [0u8; 655360];
+    run(&mut buffer, &mut out);
+}
