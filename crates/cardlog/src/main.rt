@@ -1,13 +1,18 @@
 // The log program: reads a log on standard input to its end, and writes a line for each of its lines.
 //
 // What is written is the journal's business, and proved there. Here blocks are read, handed to
-// the journal behind what it held of the block before, and its output is written. What is read and
-// written no contract can say; docs/PROMISES.md says how it is tested.
+// the journal behind what it held of the block before, and its output is written. That each block
+// stands behind what was held, and is answered from the record just handed back, is promised by
+// `turn`. Which bytes are read and written no contract can say: docs/PROMISES.md says how that is tested.
+//
+// A failure is told on standard error. The status is 0 all the same, for the language has no other.
 use card::Record;
 ghost use mathlib.Core.Path.{_≡_};
+ghost use mathlib.Core.Bool.{false};
 ghost use Prim.Native.Nat.{_≤_, _<_};
 ghost use lib.ListN.{length, take};
 ghost use Rattle.journal.specs.Blocks.{closed};
+ghost use Rattle.cardlog.specs.Turns.{Leaves, Turned};
 
 // What is kept between two blocks, and whether to go on.
 struct Between {
@@ -29,10 +34,11 @@ fn close(buffer: &mut [u8], held: usize) -> usize
     held + 1
 }
 
-// Works on what the buffer holds up to `end`, and writes the output. Where it cannot be written, that is the end.
+// Works on what the buffer holds up to `end`, and writes the output. If that fails, the program ends.
 fn answer(r: Record, buffer: &mut [u8], end: usize, out: &mut [u8], more: bool) -> Between
     requires { ⌜ (end ≤ 16384) × (length (now buffer) ≡ 16384) × (length (now out) ≡ 655360) ⌝ }
-    ensures { λ b. ⌜ b .held ≤ 601 ⌝ }
+    ensures { λ b. ⌜ Leaves r (take end (now (buffer .entry))) (now (buffer .exit)) b ⌝ }
+    ensures { λ b. ⌜ (more ≡ false → b .more ≡ false) ⌝ }
 {
     let kept = journal::feed(r, buffer, end, out);
     let filled = kept.filled;
@@ -53,9 +59,10 @@ fn answer(r: Record, buffer: &mut [u8], end: usize, out: &mut [u8], more: bool) 
     }
 }
 
-// One block. A read that fails ends the program, and the line under way is not answered: it may be the half of one.
+// One block. A read that fails ends the program, and the line under way is not answered: it may be half of one.
 fn turn(before: Between, buffer: &mut [u8], out: &mut [u8]) -> Between
     requires { ⌜ (before .held ≤ 601) × (length (now buffer) ≡ 16384) × (length (now out) ≡ 655360) ⌝ }
+    ensures { λ b. ⌜ Turned (before .after) (take (before .held) (now (buffer .entry))) (now (buffer .exit)) b ⌝ }
     ensures { λ b. ⌜ b .held ≤ 601 ⌝ }
 {
     let r = before.after;
@@ -82,17 +89,17 @@ fn turn(before: Between, buffer: &mut [u8], out: &mut [u8]) -> Between
 fn run(buffer: &mut [u8], out: &mut [u8])
     requires { ⌜ (length (now buffer) ≡ 16384) × (length (now out) ≡ 655360) ⌝ }
 {
-    let mut now = Between {
+    let mut state = Between {
         after: Record::empty(),
         held: 0,
         more: true,
     };
     let mut turns = u64::MAX;
     while turns > 0 {
-        if !now.more {
+        if !state.more {
             return;
         }
-        now = turn(now, buffer, out);
+        state = turn(state, buffer, out);
         turns -= 1;
     }
 }

@@ -162,7 +162,7 @@ by-blocks r held behind (block ∷ blocks) p e =
     let rest = by-blocks (linesYield r (endedBehind behind block) .after) kept (begunBehind behind block) blocks plain alike in
     rw (same, ended-append behind block (joined blocks), begun-append behind block (joined blocks), append-assoc, lines-output, rest)
 
--- however the input is cut into blocks, the lines that are answered, and so what is written, are the same
+-- however the input is cut into blocks, what is written is what the whole log yields. (Of a line that is too long not all is kept between two blocks, but it is unreadable either way.)
 pub cut-anywhere : (blocks : List (List ℕ)) → blocksYield emptyRecord [] blocks ≡ logOf (joined blocks)
 unfolding logOf
 cut-anywhere blocks = by-blocks emptyRecord [] [] blocks none refl

@@ -17,7 +17,7 @@ use Rattle.wire.specs.declared.Figure.the-variants.{Value, Bad}
 use Rattle.wire.specs.Road.{Numbers, are, none, join}
 use Rattle.wire.specs.Room.{Filled}
 use Rattle.journal.specs.Numbers.{digitRead, byteRead, bytesRead, hexDigit, inHex}
-use Rattle.journal.specs.Steps.{digitValue, valuesFrom, digitValues}
+use Rattle.journal.specs.Steps.{orSixteen, digitValue, valuesFrom, digitValues}
 
 -- ---- the table
 
@@ -31,19 +31,17 @@ unfolding digitValues
 value-at d h = values-at 256 0 d h ∙ ap digitValue (zero-add d)
 
 -- what the value of a byte says of it as a digit
+is-value : (f : Figure) → orSixteen f ≤ 15 → f ≡ Value (orSixteen f)
+is-value (Value n) h = refl
+is-value Bad h = absurd (omega arith)
+
 digit-is : (d : ℕ) → digitValue d ≤ 15 → digitRead d ≡ Value (digitValue d)
-digit-is d = by-tests (within 48 57 d) (within 65 70 d)
-  where
-    by-tests : (s t : Bool) → cond s (d - 48) (cond t (d - 55) 16) ≤ 15
-        → cond s (Value (d - 48)) (cond t (Value (d - 55)) Bad) ≡ Value (cond s (d - 48) (cond t (d - 55) 16))
-    by-tests true t h = refl
-    by-tests false true h = refl
-    by-tests false false h = absurd (omega arith)
+digit-is d h = is-value (digitRead d) h
 
 digit-bad : (d : ℕ) → 15 < digitValue d → digitRead d ≡ Bad
 digit-bad d = by-tests (within 48 57 d) (within 65 70 d) refl refl
   where
-    by-tests : (s t : Bool) → within 48 57 d ≡ s → within 65 70 d ≡ t → 15 < cond s (d - 48) (cond t (d - 55) 16)
+    by-tests : (s t : Bool) → within 48 57 d ≡ s → within 65 70 d ≡ t → 15 < orSixteen (cond s (Value (d - 48)) (cond t (Value (d - 55)) Bad))
         → cond s (Value (d - 48)) (cond t (Value (d - 55)) Bad) ≡ Bad
     by-tests true t p q h = absurd (omega (arith, leb-true d 57 (and-r (leb 48 d) (leb d 57) p)))
     by-tests false true p q h = absurd (omega (arith, leb-true d 70 (and-r (leb 65 d) (leb d 70) q)))

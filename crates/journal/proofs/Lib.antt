@@ -6,3 +6,4 @@ pub mod Scans
 pub mod Outputs
 pub mod Texts
 pub mod Cuts
+pub mod Unique

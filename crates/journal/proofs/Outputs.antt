@@ -31,7 +31,7 @@ use Rattle.roads.specs.declared.answering.Reply.the-variants.{Nothing, Acknowle
 use Rattle.roads.specs.Acknowledgements.{textOf, functionOf, replyTo, inText, textDone, textReply, inFrame, frameDone, frameReply}
 use Rattle.journal.specs.declared.asking.Entry.{Entry}
 use Rattle.journal.specs.declared.asking.Entry.the-variants.{Add, Remove, Report, Text, Frame, Unreadable}
-use Rattle.journal.specs.Numbers.{inDecimal, inHex}
+use Rattle.journal.specs.Numbers.{numberDigits, inHex}
 use Rattle.journal.specs.Lines.{tab}
 use Rattle.journal.specs.Journal.{lineFeed, orDash, outputLine}
 use Rattle.journal.proofs.Hex.{hex-length}
@@ -167,16 +167,16 @@ hex-put (x ∷ reply) own between room after n m f h g = rw (taken-back (x ∷ r
 
 -- ---- the number's digits
 
-pub one-digit : (n : ℕ) → n < 10 → inDecimal n ≡ (48 + n) ∷ []
+pub one-digit : (n : ℕ) → n < 10 → numberDigits n ≡ (48 + n) ∷ []
 one-digit n h = let e : n / 1 % 10 ≡ n = omega arith in rw (lt-ltb n 10 h, e)
 
-pub two-digits : (n : ℕ) → 10 ≤ n → n < 100 → inDecimal n ≡ (48 + n / 10) ∷ (48 + n % 10) ∷ []
+pub two-digits : (n : ℕ) → 10 ≤ n → n < 100 → numberDigits n ≡ (48 + n / 10) ∷ (48 + n % 10) ∷ []
 two-digits n k h =
     let e : n / 10 % 10 ≡ n / 10 = omega arith in
     let d : n / 1 % 10 ≡ n % 10 = omega arith in
     rw (le-ltb n 10 k, e, d)
 
-decimal-fits : (n : ℕ) → length (inDecimal n) ≤ 2
+decimal-fits : (n : ℕ) → length (numberDigits n) ≤ 2
 decimal-fits n = either (ltb n 10) (digitsFor 1 n) (digitsFor 2 n) 2 (omega arith) (omega arith)
 
 -- ---- head, reply and line feed
@@ -203,10 +203,10 @@ module _ (head reply room between part : List ℕ) (k n v : ℕ) (fits : k + n <
 
 -- the letter and the number, each with its tab
 abbrev headOf : ℕ → ℕ → List ℕ
-headOf letter number = letter ∷ tab ∷ (inDecimal number ++ (tab ∷ []))
+headOf letter number = letter ∷ tab ∷ (numberDigits number ++ (tab ∷ []))
 
 pub head-count : (letter number : ℕ) (room after : List ℕ) (k : ℕ) → Filled (headOf letter number) room after k → k ≤ 5
-head-count letter number room after k f = omega (arith, f .count, decimal-fits number, length-append (inDecimal number) (tab ∷ []))
+head-count letter number room after k f = omega (arith, f .count, decimal-fits number, length-append (numberDigits number) (tab ∷ []))
 
 in-line : (letter number : ℕ) (reply : List ℕ) → (headOf letter number ++ orDash reply) ++ (lineFeed ∷ []) ≡ outputLine letter number reply
 in-line letter number reply = simp append-assoc

@@ -15,8 +15,8 @@ use Rattle.wire.specs.Room.{placed, Filled}
 use Rattle.wire.proofs.Room.{lent-part}
 use Rattle.journal.specs.Journal.{lineFeed, lineYields, linesYield}
 use Rattle.journal.specs.declared.blocks.Done.{Done}
-use Rattle.journal.specs.Blocks.{endedBehind, begunBehind, ended, begun, fed}
-use Rattle.journal.specs.Steps.{Worked, keptSeen}
+use Rattle.journal.specs.Blocks.{endedBehind, begunBehind, ended, begun, fed, keptSeen}
+use Rattle.journal.specs.Steps.{Worked}
 
 -- ---- a text that has a line feed, and one that has none
 

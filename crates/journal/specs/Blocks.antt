@@ -1,24 +1,26 @@
 -- A whole log, and a log that comes in blocks.
-use Prim.Native.Nat.{ℕ}
+use Prim.Native.Nat.{ℕ, suc}
 use mathlib.Core.Bool.{cond}
 use mathlib.Core.List.{List, [], _∷_, _++_}
 use lib.ListN.{take}
 use lib.Dec.{eqb}
 use Rattle.card.specs.declared.records.Record.{Record}
 use Rattle.card.specs.Records.{emptyRecord}
+use Rattle.journal.specs.declared.blocks.Kept.{Kept}
+use Rattle.journal.specs.Lines.{longest}
 use Rattle.journal.specs.Journal.{lineFeed, linesYield}
 
 -- ---- the lines of a text
 
--- a text, byte by byte, behind what the line under way has so far: the lines that are "ended by a line feed"
+-- the lines of a text that are "ended by a line feed"; `soFar` is what the first of them has already
 unfoldable pub endedBehind : List ℕ → List ℕ → List (List ℕ)
-endedBehind begun [] = []
-endedBehind begun (x ∷ text) = cond (eqb x lineFeed) (begun ∷ endedBehind [] text) (endedBehind (begun ++ (x ∷ [])) text)
+endedBehind soFar [] = []
+endedBehind soFar (x ∷ text) = cond (eqb x lineFeed) (soFar ∷ endedBehind [] text) (endedBehind (soFar ++ (x ∷ [])) text)
 
--- and what the line under way has at the end
+-- and what the line under way has at the end of the text
 unfoldable pub begunBehind : List ℕ → List ℕ → List ℕ
-begunBehind begun [] = begun
-begunBehind begun (x ∷ text) = cond (eqb x lineFeed) (begunBehind [] text) (begunBehind (begun ++ (x ∷ [])) text)
+begunBehind soFar [] = soFar
+begunBehind soFar (x ∷ text) = cond (eqb x lineFeed) (begunBehind [] text) (begunBehind (soFar ++ (x ∷ [])) text)
 
 abbrev pub ended : List ℕ → List (List ℕ)
 ended text = endedBehind [] text
@@ -41,7 +43,7 @@ logOf text = linesYield emptyRecord (linesOf text) .output
 -- ---- the same, in blocks
 
 -- what is written for a text, and what is kept until more comes: the record, and the line under way.
--- Of a line that is too long already 601 bytes are kept, with which it stays too long
+-- Of a line that is already too long, so many bytes are kept that it stays too long
 pub record Fed : Type 0 where
   pub output : List ℕ
   pub after : Record
@@ -51,15 +53,15 @@ unfoldable pub fed : Record → List ℕ → Fed
 fed r text = record {
   output = linesYield r (ended text) .output;
   after = linesYield r (ended text) .after;
-  held = take 601 (begun text);
+  held = take (suc longest) (begun text);
 }
 
--- at the end of the input the line under way gets the line feed that it lacks
+-- at the end of the input the line under way gets the line feed that it lacks; where nothing is under way there is no further line, as with `unended`
 abbrev pub closed : List ℕ → List ℕ
 closed [] = []
 closed (x ∷ held) = (x ∷ held) ++ (lineFeed ∷ [])
 
--- the input in blocks, each behind what was held
+-- the input in blocks, each behind what was held. However it is cut, what is written is logOf the whole (cut-anywhere, in proofs/Cuts.antt)
 unfoldable pub blocksYield : Record → List ℕ → List (List ℕ) → List ℕ
 blocksYield r held [] = fed r (closed held) .output
 blocksYield r held (block ∷ blocks) = fed r (held ++ block) .output ++ blocksYield (fed r (held ++ block) .after) (fed r (held ++ block) .held) blocks
@@ -67,3 +69,7 @@ blocksYield r held (block ∷ blocks) = fed r (held ++ block) .output ++ blocksY
 abbrev pub joined : List (List ℕ) → List ℕ
 joined [] = []
 joined (block ∷ blocks) = block ++ joined blocks
+
+-- what is seen of a block that was worked on: the output at the front of one buffer, what is held at the front of the other
+abbrev pub keptSeen : Kept → List ℕ → List ℕ → Fed
+keptSeen o out buffer = record { output = take (o .filled) out; after = o .after; held = take (o .held) buffer }

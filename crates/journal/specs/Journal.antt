@@ -5,7 +5,7 @@ use lib.ListN.{replicate}
 use Rattle.card.specs.declared.records.Record.{Record}
 use Rattle.roads.specs.Calls.{Answered, replyIn}
 use Rattle.session.specs.Sessions.{Call, text, frame, add, remove, report, answerTo}
-use Rattle.journal.specs.Numbers.{inDecimal, inHex}
+use Rattle.journal.specs.Numbers.{numberDigits, inHex}
 use Rattle.journal.specs.Lines.{Asks, adds, removes, reports, says, frames, unreadable, N, X, M, T, F, E, tab, asksOf}
 
 abbrev pub lineFeed : ℕ
@@ -20,29 +20,28 @@ abbrev pub orDash : List ℕ → List ℕ
 orDash [] = 45 ∷ []
 orDash (x ∷ reply) = x ∷ reply
 
--- "its letter, the number, and the reply .. parted by tabs"
+-- "its letter, the number, and the reply .. parted by tabs", and a line feed, also where the last line of the log lacks it
 abbrev pub outputLine : ℕ → ℕ → List ℕ → List ℕ
-outputLine letter number reply = letter ∷ tab ∷ (inDecimal number ++ (tab ∷ (orDash reply ++ (lineFeed ∷ []))))
+outputLine letter number reply = letter ∷ tab ∷ (numberDigits number ++ (tab ∷ (orDash reply ++ (lineFeed ∷ []))))
 
 pub record Yield : Type 0 where
   pub output : List ℕ
   pub after : Record
 
--- what the card answered, under its letter
-abbrev pub shown : ℕ → Answered → Yield
-shown letter a = record { output = outputLine letter (a .said .number) (replyIn (a .said)); after = a .after }
+-- what the card answered, under its letter, with the reply as it is written
+abbrev pub shown : ℕ → (List ℕ → List ℕ) → Answered → Yield
+shown letter written a = record { output = outputLine letter (a .said .number) (written (replyIn (a .said))); after = a .after }
 
--- "an F reply in capital hex"
-abbrev pub shownInHex : ℕ → Answered → Yield
-shownInHex letter a = record { output = outputLine letter (a .said .number) (inHex (replyIn (a .said))); after = a .after }
+abbrev pub asItIs : List ℕ → List ℕ
+asItIs reply = reply
 
--- each letter is a call of the card; "an unreadable line yields E, 13, "-"", and is "skipped whole"
+-- each letter is a call of the card, and "an F reply [is] in capital hex"; "an unreadable line yields E, 13, "-"", and is "skipped whole"
 abbrev pub yieldOf : Record → Asks → Yield
-yieldOf r (adds zone address range) = shown N (answerTo r (add zone address range))
-yieldOf r (removes zone) = shown X (answerTo r (remove zone))
-yieldOf r (reports zone state actual) = shown M (answerTo r (report zone state actual))
-yieldOf r (says zone line) = shown T (answerTo r (text zone line lent))
-yieldOf r (frames bytes) = shownInHex F (answerTo r (frame bytes lent))
+yieldOf r (adds zone address range) = shown N asItIs (answerTo r (add zone address range))
+yieldOf r (removes zone) = shown X asItIs (answerTo r (remove zone))
+yieldOf r (reports zone state actual) = shown M asItIs (answerTo r (report zone state actual))
+yieldOf r (says zone line) = shown T asItIs (answerTo r (text zone line lent))
+yieldOf r (frames bytes) = shown F inHex (answerTo r (frame bytes lent))
 yieldOf r unreadable = record { output = outputLine E 13 []; after = r }
 
 -- what a line does
@@ -57,7 +56,8 @@ linesYield r (line ∷ lines) = record {
   after = linesYield (lineYields r line .after) lines .after;
 }
 
--- the calls that lines make of the card: one each, and none where a line is unreadable. So a log is a session (is-session, in proofs/Cuts.antt), and what is proved of every session holds of every log
+-- the calls that lines make of the card: one each, and none where a line is unreadable.
+-- So a log is a session (is-session, in proofs/Cuts.antt), and what is proved of every session holds of every log
 abbrev pub callOf : Asks → List Call
 callOf (adds zone address range) = add zone address range ∷ []
 callOf (removes zone) = remove zone ∷ []

@@ -46,7 +46,7 @@ E = 69
 abbrev pub tab : ℕ
 tab = 9
 
--- "fields parted by tabs": the bytes up to the first tab, and what stands from that tab on
+-- "fields parted by tabs": the bytes up to the first tab, and what stands from that tab on; where there is no tab, all the bytes, and nothing
 abbrev pub field : List ℕ → List ℕ
 field l = take (indexOf tab l) l
 
@@ -72,12 +72,13 @@ abbrev pub reportAsks : Numbers → Asks
 reportAsks none = unreadable
 reportAsks (are ns) = reports (getD ns 0 0) (getD ns 1 0) (getD ns 2 0)
 
--- "A T command is all that follows the second tab, perhaps nothing"
+-- "A T command is all that follows the second tab, perhaps nothing"; without that tab the line is unreadable
 abbrev pub textTo : Figure → List ℕ → Asks
 textTo Bad l = unreadable
 textTo (Value zone) [] = unreadable
-textTo (Value zone) (x ∷ line) = says zone line
+textTo (Value zone) (secondTab ∷ line) = says zone line
 
+-- "T zone line", each behind its tab
 unfoldable pub textAsks : List ℕ → Asks
 textAsks [] = unreadable
 textAsks (x ∷ l) = cond (eqb x tab) (textTo (decimalOf (field l)) (onward l)) unreadable
@@ -86,7 +87,7 @@ abbrev pub bytesAsk : Numbers → Asks
 bytesAsk none = unreadable
 bytesAsk (are bytes) = frames bytes
 
--- "at most 522 digits"
+-- "F frame in capital hex, at most 522 digits", behind a tab
 unfoldable pub frameAsks : List ℕ → Asks
 frameAsks [] = unreadable
 frameAsks (x ∷ digits) = cond (eqb x tab) (cond (ltb 522 (length digits)) unreadable (bytesAsk (bytesRead digits))) unreadable
@@ -102,8 +103,11 @@ letterAsks letter l =
     unreadable))))
 
 -- "at most 600 bytes without [its line feed]"
+abbrev pub longest : ℕ
+longest = 600
+
 abbrev pub tooLong : List ℕ → Bool
-tooLong line = ltb 600 (length line)
+tooLong line = ltb longest (length line)
 
 abbrev pub shortAsks : List ℕ → Asks
 shortAsks [] = unreadable

@@ -21,9 +21,9 @@ leadingZero l = eqb (getD l 0 0) 48 && ltb 1 (length l)
 unfoldable pub decimalOf : List ℕ → Figure
 decimalOf l = cond (within 1 5 (length l) && not (leadingZero l)) (digitsBehind 0 l) Bad
 
--- an answer number, all of which are below 100, in its digits
-abbrev pub inDecimal : ℕ → List ℕ
-inDecimal n = cond (ltb n 10) (digitsFor 1 n) (digitsFor 2 n)
+-- the digits of an answer number, all of which are below 100
+abbrev pub numberDigits : ℕ → List ℕ
+numberDigits n = cond (ltb n 10) (digitsFor 1 n) (digitsFor 2 n)
 
 -- ---- "in capital hex"
 

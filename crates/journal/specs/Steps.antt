@@ -1,5 +1,5 @@
--- What the functions on the way come to. No rule of document 01 stands here: what a line does is said in Journal.
-use Prim.Native.Nat.{ℕ, zero, suc, _+_, _-_, _*_, _≤_}
+-- What the functions on the way come to. Everything here restates Lines, Journal or Blocks for such a function, and is proved equal to it; no promise of `feed` cites it.
+use Prim.Native.Nat.{ℕ, zero, suc, _+_, _*_, _≤_}
 use mathlib.Core.Path.{_≡_}
 use mathlib.Core.Bool.{Bool, true, false, cond, not, _||_}
 use mathlib.Core.List.{List, [], _∷_}
@@ -7,7 +7,6 @@ use lib.ListN.{length, getD, take, drop}
 use lib.Dec.{leb, ltb, eqb}
 use Rattle.bytes.specs.Bytes.{indexOf}
 use Rattle.zone.specs.declared.figures.Figures.{Figures}
-use Rattle.zone.specs.Lists.{within}
 use Rattle.zone.specs.declared.zones.Zone.{Zone}
 use Rattle.card.specs.declared.answers.Refusal.{Refusal}
 use Rattle.card.specs.declared.answers.Refusal.the-variants as refusal
@@ -43,11 +42,10 @@ use Rattle.journal.specs.declared.asking.Entry.the-variants.{Add, Remove
 use Rattle.journal.specs.declared.judging.Sought.{Sought}
 use Rattle.journal.specs.declared.judging.Sought.the-variants.{Nobody, Address}
 use Rattle.journal.specs.declared.blocks.Done.{Done}
-use Rattle.journal.specs.declared.blocks.Kept.{Kept}
-use Rattle.journal.specs.Numbers.{decimalOf, inHex}
+use Rattle.journal.specs.Numbers.{decimalOf, digitRead, inHex}
 use Rattle.journal.specs.Lines.{Asks, adds, removes, reports, says, frames, unreadable, N, X, M, T, F, E, tab, field}
 use Rattle.journal.specs.Journal.{outputLine, linesYield}
-use Rattle.journal.specs.Blocks.{ended, begun, Fed}
+use Rattle.journal.specs.Blocks.{ended, begun}
 
 -- ---- reading
 
@@ -61,8 +59,12 @@ unfoldable pub numeralAt : List ℕ → ℕ → Numeral
 numeralAt l at = cond (eqb (getD l at 0) tab) (numeralOf (decimalOf (field (drop (at + 1) l))) (at + 1 + indexOf tab (drop (at + 1) l))) numeral.Bad
 
 -- what each byte is as a digit: its value, or 16 where it is none
+abbrev pub orSixteen : Figure → ℕ
+orSixteen (Value n) = n
+orSixteen Bad = 16
+
 abbrev pub digitValue : ℕ → ℕ
-digitValue d = cond (within 48 57 d) (d - 48) (cond (within 65 70 d) (d - 55) 16)
+digitValue d = orSixteen (digitRead d)
 
 abbrev pub valuesFrom : ℕ → ℕ → List ℕ
 valuesFrom d zero = []
@@ -200,7 +202,3 @@ pub record Worked (given : Record) (block out : List ℕ) (o : Done) : Type 0 wh
   pub rest : drop (o .taken) block ≡ begun block
   pub taken-fits : o .taken ≤ length block
   pub filled-fits : o .filled ≤ 40 * length block
-
--- what is seen of a block that was worked on: the output at the front of one buffer, what is held at the front of the other
-abbrev pub keptSeen : Kept → List ℕ → List ℕ → Fed
-keptSeen o out buffer = record { output = take (o .filled) out; after = o .after; held = take (o .held) buffer }

@@ -26,7 +26,7 @@ pub enum Triple {
     Bad,
 }
 
-// Triple decimals behind the letter, and nothing more.
+// Three decimals, each behind a tab, and nothing more.
 fn three(line: &[u8]) -> Triple
     ensures { λ r. ⌜ r ≡ tripleOf (decimals 3 (drop 1 (now (line .entry)))) ⌝ }
 {
@@ -89,7 +89,7 @@ fn text(line: &[u8]) -> Entry
     Entry::Text(zone as usize, line::read(&line[start..]))
 }
 
-// The frame's bytes go by way of the room.
+// The frame's bytes are first put into the room.
 fn frame(line: &[u8], values: &[u8; 256], room: &mut [u8]) -> Entry
     requires { ⌜ (now values ≡ digitValues) × (261 ≤ length (now room)) ⌝ }
     ensures { λ r. ⌜ r ≡ entryOf (frameAsks (drop 1 (now (line .entry)))) ⌝ }
@@ -100,6 +100,7 @@ fn frame(line: &[u8], values: &[u8; 256], room: &mut [u8]) -> Entry
     if line[1] != b'\t' {
         return Entry::Unreadable;
     }
+    // the letter, the tab and 522 digits
     if 524 < line.len() {
         return Entry::Unreadable;
     }

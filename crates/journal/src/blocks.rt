@@ -13,8 +13,8 @@ ghost use Prim.Native.Nat.{_+_, _*_, _≤_, min};
 ghost use lib.ListN.{length, take, drop};
 ghost use Rattle.bytes.specs.Bytes.{indexOf};
 ghost use Rattle.journal.specs.Journal.{lineFeed};
-ghost use Rattle.journal.specs.Blocks.{fed};
-ghost use Rattle.journal.specs.Steps.{Worked, lookUp, keptSeen};
+ghost use Rattle.journal.specs.Blocks.{fed, keptSeen};
+ghost use Rattle.journal.specs.Steps.{Worked, lookUp};
 
 // The record after the lines that were answered, where they end, and how much output there is.
 pub struct Done {
@@ -30,7 +30,8 @@ pub struct Kept {
     pub filled: usize,
 }
 
-// The index of the first line feed from `from` on, or the block's length.
+// The index of the first line feed from `from` on, or the block's length. Four bytes are looked at in a turn, which
+// is faster than one.
 fn line_end(block: &[u8], from: usize) -> usize
     requires { ⌜ from ≤ length (now block) ⌝ }
     ensures { λ r. ⌜ r ≡ from + indexOf lineFeed (drop from (now (block .entry))) ⌝ }
@@ -114,7 +115,7 @@ fn held_of(n: usize) -> usize
 fn keep(buffer: &mut [u8], at: usize, end: usize) -> usize
     requires { ⌜ (at ≤ end) × (end ≤ length (now buffer)) ⌝ }
     ensures { λ r. ⌜ take r (now (buffer .exit)) ≡ take 601 (drop at (take end (now (buffer .entry)))) ⌝ }
-    ensures { λ r. ⌜ r ≤ 601 ⌝ }
+    ensures { λ r. ⌜ (r ≤ 601) × (r ≤ end) ⌝ }
 {
     let n = held_of(end - at);
     let mut i: usize = 0;
@@ -130,7 +131,7 @@ fn keep(buffer: &mut [u8], at: usize, end: usize) -> usize
 pub fn feed(given: Record, buffer: &mut [u8], end: usize, out: &mut [u8]) -> Kept
     requires { ⌜ (end ≤ length (now buffer)) × (40 * end ≤ length (now out)) ⌝ }
     ensures { λ o. ⌜ keptSeen o (now (out .exit)) (now (buffer .exit)) ≡ fed given (take end (now (buffer .entry))) ⌝ }
-    ensures { λ o. ⌜ (o .held ≤ 601) × (o .filled ≤ 40 * end) ⌝ }
+    ensures { λ o. ⌜ (o .held ≤ 601) × (o .held ≤ end) × (o .filled ≤ 40 * end) ⌝ }
 {
     let done = lines(given, &buffer[0..end], out);
     let after = done.after;

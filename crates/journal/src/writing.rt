@@ -10,7 +10,7 @@ ghost use lib.ListN.{length};
 ghost use Rattle.card.specs.Answers.{numberOf, valuesOf};
 ghost use Rattle.wire.specs.Room.{Filled};
 ghost use Rattle.roads.specs.Acknowledgements.{textReply, frameReply};
-ghost use Rattle.journal.specs.Numbers.{inDecimal, inHex};
+ghost use Rattle.journal.specs.Numbers.{numberDigits, inHex};
 ghost use Rattle.journal.specs.Lines.{tab};
 ghost use Rattle.journal.specs.Journal.{orDash};
 ghost use Rattle.journal.specs.Steps.{letterOf, replyOf, frameReplied, outputOf};
@@ -31,7 +31,7 @@ fn letter(entry: Entry) -> u8
 // The letter and the number, each with its tab.
 fn put_head(letter: u8, number: u32, room: &mut [u8]) -> usize
     requires { ⌜ (number < 100) × (5 ≤ length (now room)) ⌝ }
-    ensures { λ r. ⌜ Filled (letter ∷ tab ∷ (inDecimal number ++ (tab ∷ []))) (now (room .entry)) (now (room .exit)) r ⌝ }
+    ensures { λ r. ⌜ Filled (letter ∷ tab ∷ (numberDigits number ++ (tab ∷ []))) (now (room .entry)) (now (room .exit)) r ⌝ }
 {
     if number < 10 {
         let head = [letter, b'\t', 48 + (number as u8), b'\t'];
@@ -67,7 +67,7 @@ fn put_text_reply(answer: Answer, room: &mut [u8]) -> usize
     n
 }
 
-// A frame's reply goes by way of a room of its own, in which it is not yet in digits.
+// A frame's reply is put as bytes into a room of its own, and from there in digits.
 fn put_frame_reply(address: u8, answer: Answer, room: &mut [u8]) -> usize
     requires { ⌜ 32 ≤ length (now room) ⌝ }
     ensures { λ r. ⌜ Filled (orDash (inHex (frameReply address (numberOf answer) (valuesOf answer)))) (now (room .entry)) (now (room .exit)) r ⌝ }

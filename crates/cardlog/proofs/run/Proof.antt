@@ -8,10 +8,10 @@ use Rattle.cardlog.proofs.run.Statement.{statement}
 use Rattle.cardlog.proofs.run.Tie as tie
 
 abbrev Inv-loop : tie.InvT-loop
-Inv-loop buffer₀ out₀ now₀ turns₀ buffer out now turns = (now .held ≤ 601) × (length buffer ≡ length buffer₀) × (length out ≡ length out₀)
+Inv-loop buffer₀ out₀ state₀ turns₀ buffer out state turns = (state .held ≤ 601) × (length buffer ≡ length buffer₀) × (length out ≡ length out₀)
 
 abbrev μ-loop : tie.MeasureT-loop
-μ-loop buffer₀ out₀ now₀ turns₀ buffer out now turns = turns
+μ-loop buffer₀ out₀ state₀ turns₀ buffer out state turns = turns
 
 loop-holds : tie.Need-loop-holds Inv-loop μ-loop
 loop-holds c = (omega arith, refl, refl)
@@ -29,7 +29,7 @@ turn-requires c κs =
     (p .loop .inv .0, p .loop .inv .1 ∙ a .pre .0, p .loop .inv .2 ∙ a .pre .1)
 
 loop-again : tie.Need-loop-again Inv-loop μ-loop
-loop-again c = (c .before .before .before .before .turn .ensures, c .before .before .before .buffer .given ∙ c .before .before .before .before .before .before .before .before .before .before .loop .inv .1, c .before .out .given ∙ c .before .before .before .before .before .before .before .before .before .before .loop .inv .2)
+loop-again c = (c .before .before .before .before .turn .ensures .1, c .before .before .before .buffer .given ∙ c .before .before .before .before .before .before .before .before .before .before .loop .inv .1, c .before .out .given ∙ c .before .before .before .before .before .before .before .before .before .before .loop .inv .2)
 
 same-length-3 : tie.Need-same-length-3 Inv-loop μ-loop
 same-length-3 c = c .before .loop .inv .1

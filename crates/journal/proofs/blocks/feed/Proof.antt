@@ -20,7 +20,7 @@ returns c =
     let text = take (a .end) (now (a .buffer)) in
     let w : Worked (a .given) text _ (l .lines .result) = rw (sub-zero (a .end)) at (l .lines .ensures) in
     let full : length text ≡ a .end = length-take-le (a .end) (now (a .buffer)) (s .pre .0) in
-    (fed-seen (a .given) text _ _ (l .lines .result) (c .before .before .keep .result) w (c .before .before .keep .ensures .0), (c .before .before .keep .ensures .1, rw full at (w .filled-fits)))
+    (fed-seen (a .given) text _ _ (l .lines .result) (c .before .before .keep .result) w (c .before .before .keep .ensures .0), (c .before .before .keep .ensures .1 .0, c .before .before .keep .ensures .1 .1, rw full at (w .filled-fits)))
 
 pub feed-spec : {M : Type 1} → statement M
 feed-spec =

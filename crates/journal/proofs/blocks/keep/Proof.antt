@@ -36,7 +36,7 @@ returns c =
     let p = c .before in
     let a = p .before .before .before .args in
     let last : p .loop .i ≡ p .before .held-of .result = omega arith in
-    (kept (now (a .buffer)) (p .loop .buffer) (a .at) (a .end) (p .before .held-of .result) (omega arith) (omega arith) (p .before .held-of .ensures) (rw last at (p .loop .inv .4)), p .loop .inv .1)
+    (kept (now (a .buffer)) (p .loop .buffer) (a .at) (a .end) (p .before .held-of .result) (omega arith) (omega arith) (p .before .held-of .ensures) (rw last at (p .loop .inv .4)), (p .loop .inv .1, omega (arith, p .loop .inv .2)))
 
 pub keep-spec : {M : Type 1} → statement M
 keep-spec =

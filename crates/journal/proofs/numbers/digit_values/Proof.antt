@@ -1,6 +1,7 @@
 -- The table is the definition's, computed for each of the 256 bytes.
 use mathlib.Core.Path.{refl}
 use Rattle.journal.specs.Steps.{digitValues}
+use borrow.Author.Needs.{needs}
 use Rattle.journal.proofs.numbers.digit_values.Statement.{statement}
 use Rattle.journal.proofs.numbers.digit_values.Tie as tie
 
@@ -9,4 +10,23 @@ unfolding digitValues
 returns c = refl
 
 pub digit-values-spec : {M : Type 1} → statement M
-digit-values-spec = tie.close (tie.spec returns)
+digit-values-spec =
+    tie.close
+    (tie.spec
+    (λ c. search needs)
+    (λ c. search needs)
+    (λ c. search needs)
+    (λ c. search needs)
+    (λ c. search needs)
+    (λ c. search needs)
+    (λ c. search needs)
+    (λ c. search needs)
+    (λ c. search needs)
+    (λ c. search needs)
+    (λ c. search needs)
+    (λ c. search needs)
+    (λ c. search needs)
+    (λ c. search needs)
+    (λ c. search needs)
+    (λ c. search needs)
+    returns)
