@@ -7,25 +7,18 @@
  * Built with TEST_SOUND=1 it tests the whole record before each call, as answer 2 demands; no log can bring that answer
  * about. Built with TEST_SOUND=0 it leaves the test out.
  *
- * It needs no header: the few functions of the C library that it calls are declared here.
+ * It needs no header of the system: the few functions of the C library that it calls are declared here and in output.h.
  */
 
 #ifndef TEST_SOUND
 #define TEST_SOUND 1
 #endif
 
-typedef unsigned char u8;
-typedef unsigned short u16;
-typedef unsigned int u32;
-typedef __SIZE_TYPE__ usize;
+#include "output.h"
 
 extern long read(int file, void *room, usize size);
-extern long write(int file, const void *bytes, usize size);
-extern void _exit(int status) __attribute__((noreturn));
 extern void *memchr(const void *bytes, int byte, usize size);
 extern int memcmp(const void *a, const void *b, usize size);
-extern void *memcpy(void *to, const void *from, usize size);
-extern void *memmove(void *to, const void *from, usize size);
 
 enum {
     ZONES = 16,
@@ -522,24 +515,6 @@ static enum answer frame_road(struct zone *zones, const u8 *frame, usize size, u
 }
 
 /* ---- the output */
-
-static u8 out[BLOCK];
-static usize filled;
-
-/* Writes out what is held. The program ends where standard output takes no more. */
-static void flush(void)
-{
-    const u8 *p = out;
-
-    while (filled > 0) {
-        long taken = write(1, p, filled);
-
-        if (taken <= 0)
-            _exit(1);
-        p += taken;
-        filled -= (usize)taken;
-    }
-}
 
 /* One line of output: at most a letter, two digits, twice the room and three separators. */
 static void put_line(u8 letter, enum answer answer, const u8 *reply, usize length)

@@ -10,15 +10,8 @@
  * compiler. A log of an odd seed has no line feed after its last line; each second one of those lines is too long.
  */
 
-typedef unsigned char u8;
-typedef unsigned int u32;
-typedef unsigned long u64;
-typedef __SIZE_TYPE__ usize;
+#include "output.h"
 
-extern long write(int file, const void *bytes, usize size);
-extern void _exit(int status) __attribute__((noreturn));
-extern void *memcpy(void *to, const void *from, usize size);
-extern void *memmove(void *to, const void *from, usize size);
 extern int strcmp(const char *a, const char *b);
 extern usize strlen(const char *s);
 
@@ -113,23 +106,6 @@ static u32 stray(void)
     u32 byte = once_in(700) ? near[below(sizeof near - 1)] : below(256);
 
     return byte == '\n' ? '\v' : byte;
-}
-
-static u8 out[65536];
-static usize filled;
-
-static void flush(void)
-{
-    const u8 *p = out;
-
-    while (filled > 0) {
-        long taken = write(1, p, filled);
-
-        if (taken <= 0)
-            _exit(1);
-        p += taken;
-        filled -= (usize)taken;
-    }
 }
 
 static void put_out(const u8 *bytes, usize count)
