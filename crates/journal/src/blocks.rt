@@ -14,7 +14,7 @@ ghost use lib.ListN.{length, take, drop};
 ghost use Rattle.bytes.specs.Bytes.{indexOf};
 ghost use Rattle.journal.specs.Journal.{lineFeed};
 ghost use Rattle.journal.specs.Blocks.{fed, keptSeen};
-ghost use Rattle.journal.specs.Steps.{Worked, lookUp};
+ghost use Rattle.journal.specs.Steps.{Worked};
 
 // The record after the lines that were answered, where they end, and how much output there is.
 pub struct Done {
@@ -30,46 +30,39 @@ pub struct Kept {
     pub filled: usize,
 }
 
-// The index of the first line feed from `from` on, or the block's length. Four bytes are looked at in a turn, which
-// is faster than one.
+// The index of the first line feed from `from` on, or the block's length. Four bytes are looked at in a
+// turn, which is faster than one, and the last ones singly.
 fn line_end(block: &[u8], from: usize) -> usize
     requires { ⌜ from ≤ length (now block) ⌝ }
     ensures { λ r. ⌜ r ≡ from + indexOf lineFeed (drop from (now (block .entry))) ⌝ }
 {
     let mut i = from;
+    while 4 <= block.len() - i {
+        if block[i] == b'\n' {
+            return i;
+        }
+        if block[i + 1] == b'\n' {
+            return i + 1;
+        }
+        if block[i + 2] == b'\n' {
+            return i + 2;
+        }
+        if block[i + 3] == b'\n' {
+            return i + 3;
+        }
+        i += 4;
+    }
     while i < block.len() {
         if block[i] == b'\n' {
             return i;
         }
-        if block.len() - i < 4 {
-            i += 1;
-        } else {
-            if block[i + 1] == b'\n' {
-                return i + 1;
-            }
-            if block[i + 2] == b'\n' {
-                return i + 2;
-            }
-            if block[i + 3] == b'\n' {
-                return i + 3;
-            }
-            i += 4;
-        }
+        i += 1;
     }
     i
 }
 
-fn look_up(r: Record, sought: Sought) -> Found
-    ensures { λ f. ⌜ f ≡ lookUp r sought ⌝ }
-{
-    match sought {
-        Sought::Nobody => Found::Nowhere,
-        Sought::Address(address) => r.find(address),
-    }
-}
-
 // Answers every line of the block that is ended. Soundness is tested once: a line leaves a sound record
-// sound, and an unsound one as it is.
+// sound, and an unsound one as it is. The record is searched only for a line that seeks an address.
 fn lines(given: Record, block: &[u8], out: &mut [u8]) -> Done
     requires { ⌜ 40 * length (now block) ≤ length (now out) ⌝ }
     ensures { λ o. ⌜ Worked given (now (block .entry)) (now (out .exit)) o ⌝ }
@@ -86,7 +79,10 @@ fn lines(given: Record, block: &[u8], out: &mut [u8]) -> Done
             break;
         }
         let entry = asks(&block[at..end], &values, &mut room);
-        let found = look_up(r, whom(entry));
+        let found = match whom(entry) {
+            Sought::Nobody => Found::Nowhere,
+            Sought::Address(address) => r.find(address),
+        };
         let n = place(entry, found);
         let z = r.zones[n];
         let verdict = judged(fit, entry, found, z);

@@ -165,19 +165,26 @@ fn unfit(entry: Entry) -> Refusal
     }
 }
 
-// The entry, judged; `fit` says that the record is sound.
+// The entry, judged; `fit` says that the record is sound. What comes by either road is heard in one place.
 pub fn judged(fit: bool, entry: Entry, found: Found, z: Zone) -> Verdict
     ensures { λ r. ⌜ card.verdictSeen z r ≡ card.judged z (steps.entryJudged fit entry found z) ⌝ }
 {
     if !fit {
         return Verdict::Refuses(unfit(entry));
     }
-    match entry {
-        Entry::Add(zone, address, range) => add_to(z, zone, address, range, is_held(found)),
-        Entry::Remove(zone) => remove_from(z, zone),
-        Entry::Report(zone, state, actual) => report_to(z, zone, state, actual),
-        Entry::Text(zone, parsed) => heard(z, asked_of(z, zone, parsed)),
-        Entry::Frame(framed) => heard(z, asked_framed(framed, found)),
-        Entry::Unreadable => Verdict::Refuses(Refusal::Unreadable),
-    }
+    let asked = match entry {
+        Entry::Add(zone, address, range) => {
+            return add_to(z, zone, address, range, is_held(found));
+        }
+        Entry::Remove(zone) => {
+            return remove_from(z, zone);
+        }
+        Entry::Report(zone, state, actual) => {
+            return report_to(z, zone, state, actual);
+        }
+        Entry::Text(zone, parsed) => asked_of(z, zone, parsed),
+        Entry::Frame(framed) => asked_framed(framed, found),
+        Entry::Unreadable => Asked::Refused(Refusal::Unreadable),
+    };
+    heard(z, asked)
 }

@@ -9,7 +9,7 @@ use Rattle.card.specs.Records.{sound, zoneAt, withZone}
 use Rattle.card.specs.Answers.{numberOf, valuesOf}
 use Rattle.card.specs.Steps.{afterBy}
 use Rattle.journal.specs.Journal.{Yield, lineYields}
-use Rattle.journal.specs.Steps.{lookUp, outputOf}
+use Rattle.journal.specs.Steps.{soughtOf, lookUp, outputOf}
 use Rattle.journal.proofs.Judged.{unaltered, sound-kept, place-below, turn-yields}
 use Rattle.journal.proofs.Texts.{Ahead, ahead-all, ahead-turn, ahead-none, turn-ended, turn-begun, last-ended, last-begun, written-on, room-behind, fits-behind}
 use borrow.Author.Needs.{needs}
@@ -33,22 +33,22 @@ asks-requires c κs = (c .before .before .before .before .before .before .digit-
 
 mul-z : tie.Need-mul-z Inv-loop μ-loop
 mul-z c =
-    let below : c .place .result < 16 = rw (c .place .ensures) (place-below (c .before .before .before .before .asks .result) (c .before .look-up .result)) in
+    let below : c .place .result < 16 = rw (c .place .ensures) (place-below (c .before .before .before .before .asks .result) (c .before .match .found)) in
     search needs
 
 element-copy-out-z : tie.Need-element-copy-out-z Inv-loop μ-loop
-element-copy-out-z c = rw (c .place .ensures) (place-below (c .before .before .before .before .asks .result) (c .before .look-up .result))
+element-copy-out-z c = rw (c .place .ensures) (place-below (c .before .before .before .before .asks .result) (c .before .match .found))
 
-mul-t33 : tie.Need-mul-t33 Inv-loop μ-loop
-mul-t33 c =
+mul-t35 : tie.Need-mul-t35 Inv-loop μ-loop
+mul-t35 c =
     let p = c .before .before .before .before .before in
-    let below : p .place .result < 16 = rw (p .place .ensures) (place-below (p .before .before .before .before .asks .result) (p .before .look-up .result)) in
+    let below : p .place .result < 16 = rw (p .place .ensures) (place-below (p .before .before .before .before .asks .result) (p .before .match .found)) in
     search needs
 
 element-set-from-r : tie.Need-element-set-from-r Inv-loop μ-loop
 element-set-from-r c =
     let p = c .before .before .before .before .before in
-    rw (p .place .ensures) (place-below (p .before .before .before .before .asks .result) (p .before .look-up .result))
+    rw (p .place .ensures) (place-below (p .before .before .before .before .asks .result) (p .before .match .found))
 
 put-output-requires : tie.Need-put-output-requires Inv-loop μ-loop
 put-output-requires c κs =
@@ -90,11 +90,13 @@ loop-again c =
     let few : c .before .before .put-output .result ≤ 40 = c .before .before .put-output .ensures .1 in
     let stored : j .if2 .r ≡ withZone r (n .place .result) (afterBy v (zoneAt r (n .place .result))) =
     ⊎-elim (λ w. w .2 ∙ rw (w .1 .ensures)) (λ w. w .1 ∙ sym (unaltered r (n .place .result) v (sym (j .before .alters .ensures) ∙ w .0 .left))) (j .if2 .came) in
+    let sought : n .before .match .found ≡ lookUp r (soughtOf entry) =
+    ⊎-elim (λ w. rw (w .2, ← (n .before .before .whom .ensures), w .1 .given .1)) (λ w. rw (← (n .before .before .whom .ensures), w .1 .given .1) (w .4 ∙ w .3 .ensures)) (n .before .match .came) in
     let yields : lineYields r line ≡ record { output = outputOf entry (numberOf (c .before .before .before .before .answer .result)) (valuesOf (c .before .before .before .before .answer .result)); after = j .if2 .r } =
     rw (c .before .before .before .before .answer .ensures)
-    (turn-yields r (j .if2 .r) line (p .before .before .is-sound .result) entry (n .before .look-up .result) (n .place .result) v
+    (turn-yields r (j .if2 .r) line (p .before .before .is-sound .result) entry (n .before .match .found) (n .place .result) v
     (n .before .before .before .before .asks .ensures)
-    (n .before .look-up .ensures ∙ ap (lookUp r) (n .before .before .whom .ensures))
+    sought
     (n .place .ensures)
     (p .loop .inv .4)
     (j .before .before .judged .ensures)
@@ -143,6 +145,8 @@ lines-spec =
     (λ c. search needs)
     asks-requires
     (λ c κs. search needs)
+    (λ c. search needs)
+    (λ c. search needs)
     (λ c κs. search needs)
     (λ c κs. search needs)
     mul-z
@@ -150,7 +154,7 @@ lines-spec =
     (λ c κs. search needs)
     (λ c κs. search needs)
     (λ c κs. search needs)
-    mul-t33
+    mul-t35
     element-set-from-r
     (λ c κs. search needs)
     (λ c. search needs)

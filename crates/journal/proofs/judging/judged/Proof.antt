@@ -1,4 +1,8 @@
 -- Where the record is not sound every readable line is refused for that; else each arm is the definition's clause.
+use mathlib.Core.Path.{_≡_, _∙_}
+use mathlib.Core.Logic.{⊎-elim}
+use Rattle.card.specs.Steps.{judged, askAt}
+use Rattle.journal.specs.Steps.{entryJudged}
 use Rattle.journal.proofs.Judged.{unfit-judged}
 use borrow.Author.Needs.{needs}
 use Rattle.journal.proofs.judging.judged.Statement.{statement}
@@ -22,16 +26,11 @@ returns-4 c = rw (c .before .before .entry3 .given .1, c .before .before .before
 
 returns-5 : tie.Need-returns-5
 returns-5 c =
-    let p = c .before .before .before in
-    rw (p .entry4 .given .1, p .before .before .if1 .left, ← (c .before .asked-of .ensures)) (c .heard .ensures)
-
-returns-6 : tie.Need-returns-6
-returns-6 c =
-    let p = c .before .before .before in
-    rw (p .entry5 .given .1, p .before .before .if1 .left, ← (c .before .asked-framed .ensures)) (c .heard2 .ensures)
-
-returns-7 : tie.Need-returns-7
-returns-7 c = rw (c .enum-told .given .1)
+    let a = c .before .before .before .args in
+    let fit = c .before .before .if1 .left in
+    let brought : judged (a .z) (askAt (a .z) (c .before .match .asked)) ≡ judged (a .z) (entryJudged (a .fit) (a .entry) (a .found) (a .z)) =
+    ⊎-elim (λ w. rw (w .4, w .3 .ensures, w .1 .given .1, fit)) (⊎-elim (λ w. rw (w .4, w .3 .ensures, w .1 .given .1, fit)) (λ w. rw (w .2, w .1 .given .1))) (c .before .match .came) in
+    c .heard .ensures ∙ brought
 
 pub judged-spec : {M : Type 1} → statement M
 judged-spec =
@@ -42,20 +41,17 @@ judged-spec =
     (λ c. search needs)
     (λ c κs. search needs)
     (λ c κs. search needs)
-    (λ c. search needs)
-    (λ c κs. search needs)
-    (λ c. search needs)
-    (λ c κs. search needs)
-    (λ c. search needs)
-    (λ c κs. search needs)
-    (λ c κs. search needs)
-    (λ c. search needs)
-    (λ c κs. search needs)
-    (λ c κs. search needs)
-    (λ c. search needs)
     returns-2
+    (λ c. search needs)
+    (λ c κs. search needs)
     returns-3
+    (λ c. search needs)
+    (λ c κs. search needs)
     returns-4
-    returns-5
-    returns-6
-    returns-7)
+    (λ c. search needs)
+    (λ c κs. search needs)
+    (λ c. search needs)
+    (λ c κs. search needs)
+    (λ c. search needs)
+    (λ c κs. search needs)
+    returns-5)
