@@ -13,7 +13,7 @@ here=$(cd "$(dirname "$0")" && pwd -P) || exit 1
 . "$here/tools.sh"
 
 [ $# -ge 2 ] || bench_fail "usage: speed.sh PROGRAM FOLDER [ROUNDS]"
-program=$1 folder=$2 rounds=${3:-7}
+program=$1 folder=$2 rounds=${3:-15}
 [ -f "$program" ] || bench_fail "there is no program $program"
 case $program in */*) ;; *) program=./$program ;; esac
 

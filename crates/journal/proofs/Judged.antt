@@ -1,12 +1,12 @@
 -- What is judged at the one zone that is looked at is what the call comes to on the record. Assumes nothing.
-use Prim.Native.Nat.{ℕ, _≤_, _<_}
+use Prim.Native.Nat.{ℕ, _<_}
 use mathlib.Core.Path.{_≡_, refl, sym, ap, _∙_}
-use mathlib.Core.Bool.{Bool, true, false, cond, not, _||_}
+use mathlib.Core.Bool.{Bool, true, false, cond, not}
 use mathlib.Core.List.{List, [], _∷_}
 use native.Mathlib.Omega.{arith}
 use lib.ListN.{length, drop}
 use lib.Seq.{take-append-seam}
-use lib.Dec.{leb, ltb}
+use lib.Dec.{leb}
 use borrow.Author.Tests.{leb-true, leb-false, lt-ltb, le-ltb}
 use Rattle.zone.specs.declared.figures.Figures.{Figures}
 use Rattle.zone.specs.declared.zones.Zone.{Zone}
@@ -44,7 +44,7 @@ use Rattle.journal.specs.declared.asking.Entry.the-variants.{Add, Remove
 use Rattle.journal.specs.Numbers.{inHex}
 use Rattle.journal.specs.Lines.{F, Asks, adds, removes, reports, says, frames, unreadable, asksOf}
 use Rattle.journal.specs.Journal.{lent, outputLine, Yield, yieldOf, lineYields}
-use Rattle.journal.specs.Steps.{entryOf, frameSought, soughtOf, lookUp, oneOfSixteen, placeOf, missing, unless, askedOf, askedOfHolder, askedFramed, entryJudged, unfitOf, frameReplied, outputOf}
+use Rattle.journal.specs.Steps.{entryOf, frameSought, soughtOf, lookUp, oneOfSixteen, placeOf, missing, unless, askedOfHolder, askedFramed, entryJudged, unfitOf, frameReplied, outputOf}
 
 -- where the record is not sound, every readable line is refused for that
 pub unfit-judged : (fit : Bool) (entry : Entry) (found : Found) (z : Zone) → not fit ≡ true → verdictSeen z (Refuses (unfitOf entry)) ≡ judged z (entryJudged fit entry found z)

@@ -1,12 +1,12 @@
 -- What the loops over a block's bytes cite: the search for a line feed, and bytes moved to the front. Assumes nothing.
 use Prim.Native.Nat.{ℕ, suc, _+_, _-_, _≤_, _<_, min}
 use mathlib.Core.Path.{_≡_, refl, sym, ap, _∙_}
-use mathlib.Core.List.{List, [], _∷_, _++_}
+use mathlib.Core.List.{List, _++_}
 use mathlib.Core.Bool.{Bool, true, false}
 use native.Mathlib.Nat.{min-eq-left, min-eq-right, min-le-left, min-le-right}
 use native.Mathlib.Omega.{arith}
 use native.Mathlib.Numerals.{add-one}
-use lib.ListN.{length, take, drop, getD, set, length-append, length-take, length-drop, drop-of-length-le}
+use lib.ListN.{length, take, drop, getD, set, length-take, length-drop, drop-of-length-le}
 use lib.Seq.{drop-cons, take-suc, take-all, take-take, take-add, length-take-le, getD-drop, getD-append-add, set-at, append-snoc, take-at, drop-at}
 use lib.Dec.{leb}
 use borrow.Author.Tests.{eq-eqb, ne-eqb, leb-true, leb-false}

@@ -1,7 +1,7 @@
 -- What the functions on the way come to. Everything here restates Lines, Journal or Blocks for such a function, and is proved equal to it; no promise of `feed` cites it.
 use Prim.Native.Nat.{ℕ, zero, suc, _+_, _*_, _≤_}
 use mathlib.Core.Path.{_≡_}
-use mathlib.Core.Bool.{Bool, true, false, cond, not, _||_}
+use mathlib.Core.Bool.{Bool, cond, not, _||_}
 use mathlib.Core.List.{List, [], _∷_}
 use lib.ListN.{length, getD, take, drop}
 use lib.Dec.{leb, ltb, eqb}
@@ -15,7 +15,6 @@ use Rattle.card.specs.declared.judgements.Asked.the-variants.{Refused}
 use Rattle.card.specs.declared.records.Record.{Record}
 use Rattle.card.specs.declared.records.Found.{Found}
 use Rattle.card.specs.declared.records.Found.the-variants.{At, Nowhere}
-use Rattle.card.specs.Answers.{Result}
 use Rattle.card.specs.Refusals.{Row, _gives_}
 use Rattle.card.specs.Records.{findOf}
 use Rattle.card.specs.Calls.{Judgement, addAt, removeAt, reportAt}

@@ -45,7 +45,7 @@ keep-spec =
     Inv-loop
     μ-loop
     (λ c. search needs)
-    (λ c κs. search needs)
+    (λ c κs. tt)
     loop-holds
     (λ c. search needs)
     (λ c. search needs)

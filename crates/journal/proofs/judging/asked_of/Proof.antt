@@ -13,7 +13,7 @@ pub asked-of-spec : {M : Type 1} → statement M
 asked-of-spec =
     tie.close
     (tie.spec
-    (λ c κs. search needs)
+    (λ c κs. tt)
     returns
-    (λ c κs. search needs)
+    (λ c κs. tt)
     returns-2)

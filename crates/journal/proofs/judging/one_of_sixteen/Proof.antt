@@ -1,6 +1,5 @@
 -- The test is the definition's.
 use borrow.Author.Tests.{lt-ltb, le-ltb}
-use borrow.Author.Needs.{needs}
 use Rattle.journal.proofs.judging.one_of_sixteen.Statement.{statement}
 use Rattle.journal.proofs.judging.one_of_sixteen.Tie as tie
 

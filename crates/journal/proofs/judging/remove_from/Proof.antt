@@ -13,6 +13,6 @@ pub remove-from-spec : {M : Type 1} → statement M
 remove-from-spec =
     tie.close
     (tie.spec
-    (λ c κs. search needs)
+    (λ c κs. tt)
     returns
     returns-2)
