@@ -53,7 +53,7 @@ afterBy Removes z = emptyZone
 abbrev pub verdictSeen : Zone → Verdict → Result Zone
 verdictSeen z v = record { number = numberOf (answerBy v); values = valuesOf (answerBy v); after = afterBy v z }
 
--- a present zone's decision
+-- a zone's decision
 abbrev pub judged : Zone → Judgement → Result Zone
 judged z j = settled z (j .rows) (j .values) (j .after)
 

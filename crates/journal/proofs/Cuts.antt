@@ -1,12 +1,12 @@
 -- However the input is cut into blocks, the same is written; a log is a session; and document 01's whole case. Assumes nothing.
 use Prim.Native.Nat.{ℕ, zero, suc, _-_, _≤_, _<_}
 use mathlib.Core.Path.{_≡_, refl, sym, ap, _∙_}
-use mathlib.Core.Bool.{Bool, true, false}
-use mathlib.Core.List.{List, [], _∷_, _++_, append-assoc, append-nil}
+use mathlib.Core.Bool.{true, false}
+use mathlib.Core.List.{List, [], _∷_, _++_, append-assoc}
 use native.Mathlib.Omega.{arith}
 use lib.ListN.{length, take, length-take}
 use lib.Dec.{ltb, eqb}
-use lib.Seq.{take-all, take-take, append-snoc}
+use lib.Seq.{take-all, take-take}
 use borrow.Author.Tests.{ltb-true, ltb-false}
 use Rattle.bytes.specs.Bytes.{indexOf}
 use Rattle.zone.specs.Lists.{ascii}
@@ -28,22 +28,7 @@ use Rattle.journal.specs.Lines.{Asks, adds, removes, reports, says, fram
 use Rattle.journal.specs.Journal.{lineFeed, Yield, yieldOf, lineYields, linesYield, callOf, callsIn}
 use Rattle.journal.specs.Blocks.{endedBehind, begunBehind, ended, begun, unended, linesOf, logOf, fed, closed, blocksYield, joined}
 use Rattle.journal.proofs.Fields.{line-long}
-
-by-test : {R : Type 0} (t : Bool) → (t ≡ true → R) → (t ≡ false → R) → R
-by-test true f g = f refl
-by-test false f g = g refl
-
--- ---- a text in two parts
-
-ended-append : (b s t : List ℕ) → endedBehind b (s ++ t) ≡ endedBehind b s ++ endedBehind (begunBehind b s) t
-unfolding endedBehind begunBehind
-ended-append b [] t = refl
-ended-append b (x ∷ s) t = by-test (eqb x lineFeed) (λ e. rw (e, ended-append [] s t)) (λ e. rw e (ended-append (b ++ (x ∷ [])) s t))
-
-begun-append : (b s t : List ℕ) → begunBehind b (s ++ t) ≡ begunBehind (begunBehind b s) t
-unfolding begunBehind
-begun-append b [] t = refl
-begun-append b (x ∷ s) t = by-test (eqb x lineFeed) (λ e. rw e (begun-append [] s t)) (λ e. rw e (begun-append (b ++ (x ∷ [])) s t))
+use Rattle.journal.proofs.Parts.{by-test, ended-append, begun-append, Plain, none, plain-ended, plain-begun, plain-take, begun-plain}
 
 -- ---- lines in two parts
 
@@ -51,36 +36,6 @@ lines-output : (r : Record) (x y : List (List ℕ)) → linesYield r (x ++ y) .o
 unfolding linesYield
 lines-output r [] y = refl
 lines-output r (l ∷ x) y = rw (lines-output (lineYields r l .after) x y, append-assoc)
-
--- ---- a line holds no line feed
-
-data Plain : List ℕ → Type 0 where
-  none : Plain []
-  one : {x : ℕ} {l : List ℕ} → eqb x lineFeed ≡ false → Plain l → Plain (x ∷ l)
-
-plain-ended : (b : List ℕ) {l : List ℕ} → Plain l → endedBehind b l ≡ []
-unfolding endedBehind
-plain-ended b none = refl
-plain-ended b (one {x = x} e p) = rw e (plain-ended (b ++ (x ∷ [])) p)
-
-plain-begun : (b : List ℕ) {l : List ℕ} → Plain l → begunBehind b l ≡ b ++ l
-unfolding begunBehind
-plain-begun b none = sym (append-nil b)
-plain-begun b (one {x = x} {l = l} e p) = rw e (plain-begun (b ++ (x ∷ [])) p ∙ append-snoc b x l)
-
-plain-take : (n : ℕ) {l : List ℕ} → Plain l → Plain (take n l)
-plain-take zero p = none
-plain-take (suc n) none = none
-plain-take (suc n) (one e p) = one e (plain-take n p)
-
-plain-more : {l : List ℕ} (x : ℕ) → Plain l → eqb x lineFeed ≡ false → Plain (l ++ (x ∷ []))
-plain-more x none e = one e none
-plain-more x (one f p) e = one f (plain-more x p e)
-
-begun-plain : (b t : List ℕ) → Plain b → Plain (begunBehind b t)
-unfolding begunBehind
-begun-plain b [] p = p
-begun-plain b (x ∷ t) p = by-test (eqb x lineFeed) (λ e. rw e (begun-plain [] t none)) (λ e. rw e (begun-plain (b ++ (x ∷ [])) t (plain-more x p e)))
 
 -- ---- lines that agree in their first 601 bytes are answered alike: either they are the same, or both are too long
 

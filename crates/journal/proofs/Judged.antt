@@ -174,7 +174,7 @@ frame-at r bytes = by-framed (frameRead bytes) refl
 
 -- ---- what a line yields, by what its call comes to
 
-abbrev pub yieldBy : Entry → Result Record → Yield
+abbrev yieldBy : Entry → Result Record → Yield
 yieldBy entry o = record { output = outputOf entry (o .number) (o .values); after = o .after }
 
 text-shown : (r : Record) (n : ℕ) (line : List ℕ) → yieldOf r (says n line) ≡ yieldBy (Text n (lineRead line)) (textResult r n line lent)
@@ -202,10 +202,10 @@ frame-shown r bytes =
     by-framed (Request a p) e = rw (right-sum bytes a p e .2)
 
 -- where an entry looks, and what it comes to there
-abbrev pub looksFor : Record → Entry → Found
+abbrev looksFor : Record → Entry → Found
 looksFor r entry = lookUp r (soughtOf entry)
 
-abbrev pub looksAt : Record → Entry → ℕ
+abbrev looksAt : Record → Entry → ℕ
 looksAt r entry = placeOf entry (looksFor r entry)
 
 abbrev comes : Record → Entry → Result Record
@@ -231,7 +231,7 @@ came r unreadable = refl
 -- ---- one turn of the loop that holds the record
 
 -- what the turn writes and leaves is what the line yields
-pub line-turn : (r : Record) (line : List ℕ) (fit : Bool) (v : Verdict) → fit ≡ sound r
+line-turn : (r : Record) (line : List ℕ) (fit : Bool) (v : Verdict) → fit ≡ sound r
     → verdictSeen (zoneAt r (looksAt r (entryOf (asksOf line)))) v ≡ judged (zoneAt r (looksAt r (entryOf (asksOf line)))) (entryJudged fit (entryOf (asksOf line)) (looksFor r (entryOf (asksOf line))) (zoneAt r (looksAt r (entryOf (asksOf line)))))
     → lineYields r line
     ≡ record {

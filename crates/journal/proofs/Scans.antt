@@ -33,7 +33,7 @@ feed-nowhere l i h = rw (drop-of-length-le l h) (omega arith)
 pub moved-none : (b : List ℕ) (at : ℕ) → b ≡ take 0 (drop at b) ++ drop 0 b
 moved-none b at = refl
 
-pub moved-more : (b : List ℕ) (at i : ℕ) → at + i < length b
+moved-more : (b : List ℕ) (at i : ℕ) → at + i < length b
     → set (take i (drop at b) ++ drop i b) i (getD (take i (drop at b) ++ drop i b) (at + i) 0) ≡ take (i + 1) (drop at b) ++ drop (i + 1) b
 moved-more b at i h =
     let below : i < length (drop at b) = rw length-drop (omega arith) in
@@ -51,13 +51,13 @@ pub moved-on : (b now : List ℕ) (at i : ℕ) → at + i < length b → now ≡
 moved-on b now at i h e = rw e (moved-more b at i h)
 
 -- a part of a text is the text's beginning, from `at` on
-pub part-of : (b : List ℕ) (at end : ℕ) → at ≤ end → end ≤ length b → drop at (take end b) ≡ take (end - at) (drop at b)
+part-of : (b : List ℕ) (at end : ℕ) → at ≤ end → end ≤ length b → drop at (take end b) ≡ take (end - at) (drop at b)
 part-of b at end h k =
     let whole : end ≡ at + (end - at) = omega arith in
     let front : length (take at b) ≡ at = length-take-le at b (omega arith) in
     ap (λ (n : ℕ). drop at (take n b)) whole ∙ rw (take-add at (end - at) b) (drop-at (take at b) (take (end - at) (drop at b)) at front)
 
-pub take-least : (l : List ℕ) (k n m : ℕ) → n ≡ min m k → take m (take k l) ≡ take n l
+take-least : (l : List ℕ) (k n m : ℕ) → n ≡ min m k → take m (take k l) ≡ take n l
 take-least l k n m e = by-test (leb m k) refl
   where
     by-test : (t : Bool) → leb m k ≡ t → take m (take k l) ≡ take n l

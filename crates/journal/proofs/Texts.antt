@@ -1,62 +1,20 @@
 -- The lines of a text, one turn of the loop at a time. Assumes nothing.
 use Prim.Native.Nat.{ℕ, suc, _+_, _-_, _*_, _≤_, _<_}
-use mathlib.Core.Path.{_≡_, refl, sym, _∙_}
-use mathlib.Core.Bool.{Bool, true, false}
+use mathlib.Core.Path.{_≡_, refl, _∙_}
 use mathlib.Core.List.{List, [], _∷_, _++_, append-assoc, append-nil}
 use native.Mathlib.Omega.{arith}
 use lib.ListN.{length, take, drop, length-append, length-drop}
 use lib.Seq.{take-all, take-length, length-take-le, take-at, drop-drop}
-use lib.Dec.{eqb}
 use borrow.Rule.Slice.PartMut.{putMid}
-use Rattle.bytes.specs.Bytes.{indexOf, indexAfter}
+use Rattle.bytes.specs.Bytes.{indexOf}
 use Rattle.card.specs.declared.records.Record.{Record}
 use Rattle.wire.specs.Room.{placed, Filled}
 use Rattle.wire.proofs.Room.{lent-part}
 use Rattle.journal.specs.Journal.{lineFeed, lineYields, linesYield}
 use Rattle.journal.specs.declared.blocks.Done.{Done}
-use Rattle.journal.specs.Blocks.{endedBehind, begunBehind, ended, begun, fed, keptSeen}
+use Rattle.journal.specs.Blocks.{ended, begun, fed, keptSeen}
 use Rattle.journal.specs.Steps.{Worked}
-
--- ---- a text that has a line feed, and one that has none
-
-pub ended-line : (b t : List ℕ) → indexOf lineFeed t < length t → endedBehind b t ≡ (b ++ take (indexOf lineFeed t) t) ∷ endedBehind [] (drop (suc (indexOf lineFeed t)) t)
-unfolding endedBehind indexOf indexAfter
-ended-line b [] h = absurd (omega arith)
-ended-line b (x ∷ t) h = by-feed (eqb x lineFeed) refl h (ended-line (b ++ (x ∷ [])) t)
-  where
-    by-feed : (f : Bool) → eqb x lineFeed ≡ f → indexOf lineFeed (x ∷ t) < length (x ∷ t) → (indexOf lineFeed t < length t → endedBehind (b ++ (x ∷ [])) t ≡ ((b ++ (x ∷ [])) ++ take (indexOf lineFeed t) t) ∷ endedBehind [] (drop (suc (indexOf lineFeed t)) t))
-        → endedBehind b (x ∷ t) ≡ (b ++ take (indexOf lineFeed (x ∷ t)) (x ∷ t)) ∷ endedBehind [] (drop (suc (indexOf lineFeed (x ∷ t))) (x ∷ t))
-    by-feed true e h again = rw (e, append-nil b)
-    by-feed false e h again =
-        let k : indexOf lineFeed t < length t = omega (arith, rw e at h) in
-        rw e (again k ∙ rw (append-assoc b (x ∷ []) (take (indexOf lineFeed t) t)))
-
-pub begun-line : (b t : List ℕ) → indexOf lineFeed t < length t → begunBehind b t ≡ begunBehind [] (drop (suc (indexOf lineFeed t)) t)
-unfolding begunBehind indexOf indexAfter
-begun-line b [] h = absurd (omega arith)
-begun-line b (x ∷ t) h = by-feed (eqb x lineFeed) refl h (begun-line (b ++ (x ∷ [])) t)
-  where
-    by-feed : (f : Bool) → eqb x lineFeed ≡ f → indexOf lineFeed (x ∷ t) < length (x ∷ t) → (indexOf lineFeed t < length t → begunBehind (b ++ (x ∷ [])) t ≡ begunBehind [] (drop (suc (indexOf lineFeed t)) t)) → begunBehind b (x ∷ t) ≡ begunBehind [] (drop (suc (indexOf lineFeed (x ∷ t))) (x ∷ t))
-    by-feed true e h again = rw e
-    by-feed false e h again = let k : indexOf lineFeed t < length t = omega (arith, rw e at h) in rw e (again k)
-
-pub ended-none : (b t : List ℕ) → length t ≤ indexOf lineFeed t → endedBehind b t ≡ []
-unfolding endedBehind indexOf indexAfter
-ended-none b [] h = refl
-ended-none b (x ∷ t) h = by-feed (eqb x lineFeed) refl h (ended-none (b ++ (x ∷ [])) t)
-  where
-    by-feed : (f : Bool) → eqb x lineFeed ≡ f → length (x ∷ t) ≤ indexOf lineFeed (x ∷ t) → (length t ≤ indexOf lineFeed t → endedBehind (b ++ (x ∷ [])) t ≡ []) → endedBehind b (x ∷ t) ≡ []
-    by-feed true e h again = absurd (omega (arith, rw e at h))
-    by-feed false e h again = let k : length t ≤ indexOf lineFeed t = omega (arith, rw e at h) in rw e (again k)
-
-pub begun-none : (b t : List ℕ) → length t ≤ indexOf lineFeed t → begunBehind b t ≡ b ++ t
-unfolding begunBehind indexOf indexAfter
-begun-none b [] h = sym (append-nil b)
-begun-none b (x ∷ t) h = by-feed (eqb x lineFeed) refl h (begun-none (b ++ (x ∷ [])) t)
-  where
-    by-feed : (f : Bool) → eqb x lineFeed ≡ f → length (x ∷ t) ≤ indexOf lineFeed (x ∷ t) → (length t ≤ indexOf lineFeed t → begunBehind (b ++ (x ∷ [])) t ≡ (b ++ (x ∷ [])) ++ t) → begunBehind b (x ∷ t) ≡ b ++ (x ∷ t)
-    by-feed true e h again = absurd (omega (arith, rw e at h))
-    by-feed false e h again = let k : length t ≤ indexOf lineFeed t = omega (arith, rw e at h) in rw e (again k ∙ append-assoc b (x ∷ []) t)
+use Rattle.journal.proofs.Parts.{plain-ended, plain-begun, no-feed, ended-line, begun-line}
 
 -- ---- one turn: the line from `at` to the line feed at `end`
 
@@ -73,16 +31,16 @@ module _ (block : List ℕ) (at end : ℕ) (h : at ≤ length block) (e : end �
   width = omega arith
 
   pub turn-ended : end < length block → ended (drop at block) ≡ take (end - at) (drop at block) ∷ ended (drop (end + 1) block)
-  turn-ended k = ended-line [] (drop at block) (some-feed k) ∙ rw (behind, width)
+  turn-ended k = ended-line (drop at block) (some-feed k) ∙ rw (behind, width)
 
   pub turn-begun : end < length block → begun (drop at block) ≡ begun (drop (end + 1) block)
-  turn-begun k = begun-line [] (drop at block) (some-feed k) ∙ rw behind
+  turn-begun k = begun-line (drop at block) (some-feed k) ∙ rw behind
 
   pub last-ended : length block ≤ end → ended (drop at block) ≡ []
-  last-ended k = ended-none [] (drop at block) (rw length-drop (omega arith))
+  last-ended k = plain-ended [] (no-feed (drop at block) (rw length-drop (omega arith)))
 
   pub last-begun : length block ≤ end → begun (drop at block) ≡ drop at block
-  last-begun k = begun-none [] (drop at block) (rw length-drop (omega arith))
+  last-begun k = plain-begun [] (no-feed (drop at block) (rw length-drop (omega arith)))
 
 -- ---- what was written behind the output so far
 

@@ -21,7 +21,8 @@ pub enum Entry {
     Unreadable,
 }
 
-pub enum Triple {
+// Three decimals, if they are there.
+enum Triple {
     Are(u32, u32, u32),
     Bad,
 }

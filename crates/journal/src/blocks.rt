@@ -17,10 +17,10 @@ ghost use Rattle.journal.specs.Blocks.{fed, keptSeen};
 ghost use Rattle.journal.specs.Steps.{Worked};
 
 // The record after the lines that were answered, where they end, and how much output there is.
-pub struct Done {
-    pub after: Record,
-    pub taken: usize,
-    pub filled: usize,
+struct Done {
+    after: Record,
+    taken: usize,
+    filled: usize,
 }
 
 // What is kept until more of the input comes, and how much output there is.

@@ -50,28 +50,32 @@ element-set-from-r c =
     let p = c .before .before .before .before .before in
     rw (p .place .ensures) (place-below (p .before .before .before .before .asks .result) (p .before .match .found))
 
+-- one more line of output fits
+fits : (c : tie.Else1 Inv-loop μ-loop) → c .before .before .loop .filled + 40 ≤ length (c .before .before .loop .out)
+fits c =
+    let q = c .before in
+    let p = q .before in
+    let a = p .before .before .before .before .before in
+    fits-behind (p .loop .at) (q .line-end .result) (p .loop .filled) (now (a .args .block)) (p .loop .out) (p .loop .inv .1) (q .line-end .ensures) (c .if1 .left) (rw (p .loop .inv .2) (a .pre))
+
 put-output-requires : tie.Need-put-output-requires Inv-loop μ-loop
 put-output-requires c κs =
-    let p = c .before .before .before .before .before .before .before .before .before .before .before .before .before .before .before .before in
-    let q = c .before .before .before .before .before .before .before .before .before .before .before .before .before .before .before in
-    let a = p .before .before .before .before .before in
-    room-behind (p .loop .out) (p .loop .filled)
-    (fits-behind (p .loop .at) (q .line-end .result) (p .loop .filled) (now (a .args .block)) (p .loop .out) (p .loop .inv .1) (q .line-end .ensures) (c .before .before .before .before .before .before .before .before .before .before .before .before .before .before .if1 .left) (rw (p .loop .inv .2) (a .pre)))
+    let e = c .before .before .before .before .before .before .before .before .before .before .before .before .before .before in
+    let p = e .before .before in
+    room-behind (p .loop .out) (p .loop .filled) (fits e)
 
 add-filled : tie.Need-add-filled Inv-loop μ-loop
 add-filled c =
-    let p = c .before .before .before .before .before .before .before .before .before .before .before .before .before .before .before .before .before .before .before in
-    let q = c .before .before .before .before .before .before .before .before .before .before .before .before .before .before .before .before .before .before in
-    let a = p .before .before .before .before .before in
-    let fits : p .loop .filled + 40 ≤ length (p .loop .out) = fits-behind (p .loop .at) (q .line-end .result) (p .loop .filled) (now (a .args .block)) (p .loop .out) (p .loop .inv .1) (q .line-end .ensures) (c .before .before .before .before .before .before .before .before .before .before .before .before .before .before .before .before .before .if1 .left) (rw (p .loop .inv .2) (a .pre)) in
+    let e = c .before .before .before .before .before .before .before .before .before .before .before .before .before .before .before .before .before in
+    let room = fits e in
     let few : c .before .before .put-output .result ≤ 40 = c .before .before .put-output .ensures .1 in
-    omega (arith, p .loop .inv .2)
+    omega (arith, e .before .before .loop .inv .2)
 
 add-at : tie.Need-add-at Inv-loop μ-loop
 add-at c =
-    let p = c .before .before .before .before .before .before .before .before .before .before .before .before .before .before .before .before .before .before .before in
-    let below : c .before .before .before .before .before .before .before .before .before .before .before .before .before .before .before .before .before .before .line-end .result < length (now (c .before .before .before .before .before .before .before .before .before .before .before .before .before .before .before .before .before .before .before .before .before .before .before .before .args .block)) = c .before .before .before .before .before .before .before .before .before .before .before .before .before .before .before .before .before .if1 .left in
-    omega (arith, c .before .before .before .before .before .before .before .before .before .before .before .before .before .before .before .before .before .before .before .before .before .before .before .before .pre, p .loop .inv .2)
+    let e = c .before .before .before .before .before .before .before .before .before .before .before .before .before .before .before .before .before in
+    let p = e .before .before in
+    omega (arith, e .if1 .left, p .before .before .before .before .before .pre, p .loop .inv .2)
 
 loop-again : tie.Need-loop-again Inv-loop μ-loop
 loop-again c =
@@ -86,7 +90,7 @@ loop-again c =
     let entry = n .before .before .before .before .asks .result in
     let line = take (q .line-end .result - p .loop .at) (drop (p .loop .at) block) in
     let h : q .line-end .result < length block = c .before .before .before .before .before .before .before .before .before .before .before .before .before .before .before .before .before .if1 .left in
-    let fits : p .loop .filled + 40 ≤ length (p .loop .out) = fits-behind (p .loop .at) (q .line-end .result) (p .loop .filled) block (p .loop .out) (p .loop .inv .1) (q .line-end .ensures) h (rw (p .loop .inv .2) (a .pre)) in
+    let room = fits (c .before .before .before .before .before .before .before .before .before .before .before .before .before .before .before .before .before) in
     let few : c .before .before .put-output .result ≤ 40 = c .before .before .put-output .ensures .1 in
     let stored : j .if2 .r ≡ withZone r (n .place .result) (afterBy v (zoneAt r (n .place .result))) =
     ⊎-elim (λ w. w .2 ∙ rw (w .1 .ensures)) (λ w. w .1 ∙ sym (unaltered r (n .place .result) v (sym (j .before .alters .ensures) ∙ w .0 .left))) (j .if2 .came) in

@@ -1,6 +1,5 @@
 -- A number above 15 is refused; else the zone decides.
 use borrow.Author.Tests.{le-leb, lt-leb}
-use borrow.Author.Needs.{needs}
 use Rattle.journal.proofs.judging.add_to.Statement.{statement}
 use Rattle.journal.proofs.judging.add_to.Tie as tie
 

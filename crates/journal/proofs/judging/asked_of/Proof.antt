@@ -1,5 +1,4 @@
 -- The test is the definition's.
-use borrow.Author.Needs.{needs}
 use Rattle.journal.proofs.judging.asked_of.Statement.{statement}
 use Rattle.journal.proofs.judging.asked_of.Tie as tie
 

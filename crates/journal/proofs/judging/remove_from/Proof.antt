@@ -1,5 +1,4 @@
 -- A missing zone is refused; else it is emptied.
-use borrow.Author.Needs.{needs}
 use Rattle.journal.proofs.judging.remove_from.Statement.{statement}
 use Rattle.journal.proofs.judging.remove_from.Tie as tie
 

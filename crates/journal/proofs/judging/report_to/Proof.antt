@@ -1,5 +1,4 @@
 -- A missing zone is refused; else it decides.
-use borrow.Author.Needs.{needs}
 use Rattle.journal.proofs.judging.report_to.Statement.{statement}
 use Rattle.journal.proofs.judging.report_to.Tie as tie
 

@@ -1,0 +1,89 @@
+-- The lines of a text in parts: what a text without a line feed comes to, and one up to its first line feed. Assumes nothing.
+use Prim.Native.Nat.{ℕ, zero, suc, _≤_, _<_}
+use mathlib.Core.Path.{_≡_, refl, sym, ap, _∙_}
+use mathlib.Core.Bool.{Bool, true, false}
+use mathlib.Core.List.{List, [], _∷_, _++_, append-nil}
+use native.Mathlib.Omega.{arith}
+use lib.ListN.{length, take, drop}
+use lib.Dec.{eqb}
+use lib.Seq.{append-snoc}
+use borrow.Author.Tests.{eqb-true}
+use Rattle.bytes.specs.Bytes.{indexOf, indexAfter}
+use Rattle.journal.specs.Journal.{lineFeed}
+use Rattle.journal.specs.Blocks.{endedBehind, begunBehind, ended, begun}
+
+pub by-test : {R : Type 0} (t : Bool) → (t ≡ true → R) → (t ≡ false → R) → R
+by-test true f g = f refl
+by-test false f g = g refl
+
+-- ---- a text in two parts
+
+pub ended-append : (b s t : List ℕ) → endedBehind b (s ++ t) ≡ endedBehind b s ++ endedBehind (begunBehind b s) t
+unfolding endedBehind begunBehind
+ended-append b [] t = refl
+ended-append b (x ∷ s) t = by-test (eqb x lineFeed) (λ e. rw (e, ended-append [] s t)) (λ e. rw e (ended-append (b ++ (x ∷ [])) s t))
+
+pub begun-append : (b s t : List ℕ) → begunBehind b (s ++ t) ≡ begunBehind (begunBehind b s) t
+unfolding begunBehind
+begun-append b [] t = refl
+begun-append b (x ∷ s) t = by-test (eqb x lineFeed) (λ e. rw e (begun-append [] s t)) (λ e. rw e (begun-append (b ++ (x ∷ [])) s t))
+
+-- ---- a line holds no line feed
+
+pub data Plain : List ℕ → Type 0 where
+  none : Plain []
+  one : {x : ℕ} {l : List ℕ} → eqb x lineFeed ≡ false → Plain l → Plain (x ∷ l)
+
+pub plain-ended : (b : List ℕ) {l : List ℕ} → Plain l → endedBehind b l ≡ []
+unfolding endedBehind
+plain-ended b none = refl
+plain-ended b (one {x = x} e p) = rw e (plain-ended (b ++ (x ∷ [])) p)
+
+pub plain-begun : (b : List ℕ) {l : List ℕ} → Plain l → begunBehind b l ≡ b ++ l
+unfolding begunBehind
+plain-begun b none = sym (append-nil b)
+plain-begun b (one {x = x} {l = l} e p) = rw e (plain-begun (b ++ (x ∷ [])) p ∙ append-snoc b x l)
+
+pub plain-take : (n : ℕ) {l : List ℕ} → Plain l → Plain (take n l)
+plain-take zero p = none
+plain-take (suc n) none = none
+plain-take (suc n) (one e p) = one e (plain-take n p)
+
+plain-more : {l : List ℕ} (x : ℕ) → Plain l → eqb x lineFeed ≡ false → Plain (l ++ (x ∷ []))
+plain-more x none e = one e none
+plain-more x (one f p) e = one f (plain-more x p e)
+
+pub begun-plain : (b t : List ℕ) → Plain b → Plain (begunBehind b t)
+unfolding begunBehind
+begun-plain b [] p = p
+begun-plain b (x ∷ t) p = by-test (eqb x lineFeed) (λ e. rw e (begun-plain [] t none)) (λ e. rw e (begun-plain (b ++ (x ∷ [])) t (plain-more x p e)))
+
+-- ---- by where the first line feed stands
+
+pub no-feed : (t : List ℕ) → length t ≤ indexOf lineFeed t → Plain t
+unfolding indexOf indexAfter
+no-feed [] h = none
+no-feed (x ∷ t) h = by-test (eqb x lineFeed) (λ e. absurd (omega (arith, rw e at h))) (λ e. one e (no-feed t (omega (arith, rw e at h))))
+
+first-feed : (t : List ℕ) → indexOf lineFeed t < length t → (t ≡ take (indexOf lineFeed t) t ++ (lineFeed ∷ drop (suc (indexOf lineFeed t)) t)) × Plain (take (indexOf lineFeed t) t)
+unfolding indexOf indexAfter
+first-feed [] h = absurd (omega arith)
+first-feed (x ∷ t) h =
+    by-test (eqb x lineFeed) (λ e. rw e (ap (λ (y : ℕ). y ∷ t) (eqb-true x lineFeed e), none))
+    (λ e.
+    let f = first-feed t (omega (arith, rw e at h)) in
+    rw e (ap (λ (l : List ℕ). x ∷ l) (f .0), one e (f .1)))
+
+ended-first : (l rest : List ℕ) → Plain l → ended (l ++ (lineFeed ∷ rest)) ≡ l ∷ ended rest
+unfolding endedBehind
+ended-first l rest p = ended-append [] l (lineFeed ∷ rest) ∙ rw (plain-ended [] p, plain-begun [] p)
+
+begun-first : (l rest : List ℕ) → begun (l ++ (lineFeed ∷ rest)) ≡ begun rest
+unfolding begunBehind
+begun-first l rest = begun-append [] l (lineFeed ∷ rest)
+
+pub ended-line : (t : List ℕ) → indexOf lineFeed t < length t → ended t ≡ take (indexOf lineFeed t) t ∷ ended (drop (suc (indexOf lineFeed t)) t)
+ended-line t h = let f = first-feed t h in ap (λ (s : List ℕ). ended s) (f .0) ∙ ended-first (take (indexOf lineFeed t) t) (drop (suc (indexOf lineFeed t)) t) (f .1)
+
+pub begun-line : (t : List ℕ) → indexOf lineFeed t < length t → begun t ≡ begun (drop (suc (indexOf lineFeed t)) t)
+begun-line t h = let f = first-feed t h in ap (λ (s : List ℕ). begun s) (f .0) ∙ begun-first (take (indexOf lineFeed t) t) (drop (suc (indexOf lineFeed t)) t)
