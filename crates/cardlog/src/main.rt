@@ -3,22 +3,31 @@
 // What is written is the journal's business, and proved there. Here blocks are read, handed to
 // the journal behind what it held of the block before, and its output is written. That each block
 // stands behind what was held, and is answered from the record just handed back, is promised by
-// `turn`. Which bytes are read and written no contract can say: docs/PROMISES.md says how that is tested.
+// `turn`, and so is that what is handed to write is the output for it, all of it and nothing else.
+// Which bytes are read, and what write does with those that it is handed, no contract can say:
+// docs/PROMISES.md says how that is tested.
 //
-// A failure is told on standard error. The status is 0 all the same, for the language has no other.
+// A failure is told on standard error. The language has no status; the launcher has one.
 use card::Record;
 ghost use mathlib.Core.Path.{_≡_};
-ghost use mathlib.Core.Bool.{false};
+ghost use mathlib.Core.Bool.{false, _&&_};
 ghost use Prim.Native.Nat.{_≤_, _<_};
 ghost use lib.ListN.{length, take};
 ghost use Rattle.journal.specs.Blocks.{closed};
 ghost use Rattle.cardlog.specs.Turns.{Leaves, Turned};
 
-// What is kept between two blocks, and whether to go on.
+// What is kept between two blocks, how many bytes of output were handed to write, and whether to go on.
 struct Between {
     after: Record,
     held: usize,
+    handed: usize,
     more: bool,
+}
+
+// How many bytes were handed to write, and whether all of them went out.
+struct Written {
+    handed: usize,
+    whole: bool,
 }
 
 // At the end of the input the line under way gets the line feed that it lacks.
@@ -34,35 +43,57 @@ fn close(buffer: &mut [u8], held: usize) -> usize
     held + 1
 }
 
+// The output: the front of `out`, as far as it is filled.
+fn output(out: &[u8], filled: usize) -> &[u8]
+    requires { ⌜ filled ≤ length (now out) ⌝ }
+    ensures { λ r. ⌜ now r ≡ take filled (now (out .entry)) ⌝ }
+{
+    &out[0..filled]
+}
+
+// Hands the bytes to write, and tells how many they are.
+fn write(bytes: &[u8]) -> Written
+    ensures { λ w. ⌜ w .handed ≡ length (now (bytes .entry)) ⌝ }
+{
+    let whole = io::write_all(1, bytes);
+    if !whole {
+        io::write_all(2, b"cardlog: the output cannot be written\n");
+    }
+    Written {
+        handed: bytes.len(),
+        whole: whole,
+    }
+}
+
+// The program goes on where more may come and the output was written.
+fn goes_on(more: bool, written: bool) -> bool
+    ensures { λ b. ⌜ b ≡ (more && written) ⌝ }
+{
+    more & written
+}
+
 // Works on what the buffer holds up to `end`, and writes the output. If that fails, the program ends.
 fn answer(r: Record, buffer: &mut [u8], end: usize, out: &mut [u8], more: bool) -> Between
-    requires { ⌜ (end ≤ 16384) × (length (now buffer) ≡ 16384) × (length (now out) ≡ 655360) ⌝ }
-    ensures { λ b. ⌜ Leaves r (take end (now (buffer .entry))) (now (buffer .exit)) b ⌝ }
+    requires { ⌜ (end ≤ 16384) × (length (now buffer) ≡ 16384) × (length (now out) ≡ 131112) ⌝ }
+    ensures { λ b. ⌜ Leaves r (take end (now (buffer .entry))) (now (buffer .exit)) (now (out .exit)) b ⌝ }
     ensures { λ b. ⌜ (more ≡ false → b .more ≡ false) ⌝ }
 {
     let kept = journal::feed(r, buffer, end, out);
     let filled = kept.filled;
     let after = kept.after;
-    let held = kept.held;
-    if io::write_all(1, &out[0..filled]) {
-        return Between {
-            after: after,
-            held: held,
-            more: more,
-        };
-    }
-    io::write_all(2, b"cardlog: the output cannot be written\n");
+    let written = write(output(out, filled));
     Between {
         after: after,
-        held: held,
-        more: false,
+        held: kept.held,
+        handed: written.handed,
+        more: goes_on(more, written.whole),
     }
 }
 
 // One block. A read that fails ends the program, and the line under way is not answered: it may be half of one.
 fn turn(before: Between, buffer: &mut [u8], out: &mut [u8]) -> Between
-    requires { ⌜ (before .held ≤ 601) × (length (now buffer) ≡ 16384) × (length (now out) ≡ 655360) ⌝ }
-    ensures { λ b. ⌜ Turned (before .after) (take (before .held) (now (buffer .entry))) (now (buffer .exit)) b ⌝ }
+    requires { ⌜ (before .held ≤ 601) × (length (now buffer) ≡ 16384) × (length (now out) ≡ 131112) ⌝ }
+    ensures { λ b. ⌜ Turned (before .after) (take (before .held) (now (buffer .entry))) (now (buffer .exit)) (now (out .exit)) b ⌝ }
     ensures { λ b. ⌜ b .held ≤ 601 ⌝ }
 {
     let r = before.after;
@@ -73,6 +104,7 @@ fn turn(before: Between, buffer: &mut [u8], out: &mut [u8]) -> Between
         return Between {
             after: r,
             held: held,
+            handed: 0,
             more: false,
         };
     }
@@ -87,11 +119,12 @@ fn turn(before: Between, buffer: &mut [u8], out: &mut [u8]) -> Between
 // Block after block, to the end of the input. A proved loop ends, and nothing says that the input does: the turns
 // are counted down from a number that no input uses up.
 fn run(buffer: &mut [u8], out: &mut [u8])
-    requires { ⌜ (length (now buffer) ≡ 16384) × (length (now out) ≡ 655360) ⌝ }
+    requires { ⌜ (length (now buffer) ≡ 16384) × (length (now out) ≡ 131112) ⌝ }
 {
     let mut state = Between {
         after: Record::empty(),
         held: 0,
+        handed: 0,
         more: true,
     };
     let mut turns = u64::MAX;
@@ -104,9 +137,10 @@ fn run(buffer: &mut [u8], out: &mut [u8])
     }
 }
 
-// The output has room for 40 bytes for each byte of the buffer, since the shortest line is its line feed alone.
+// The output has room for 8 bytes for each byte of the buffer, and 40 more: a line yields at most 8 bytes for each
+// of its own and its line feed, and 40 are asked for before one is written.
 fn main() {
     let mut buffer = [0u8; 16384];
-    let mut out = [0u8; 655360];
+    let mut out = [0u8; 131112];
     run(&mut buffer, &mut out);
 }

@@ -4,6 +4,7 @@ pub mod Fields
 pub mod Judged
 pub mod Scans
 pub mod Outputs
+pub mod Bounds
 pub mod Parts
 pub mod Texts
 pub mod Cuts

@@ -88,7 +88,7 @@ text-done : (values : List Figures) → length (textDone values) ≤ 32
 text-done [] = omega arith
 text-done (figures ∷ more) = line-with figures
 
-text-fits : (number : ℕ) (values : List Figures) → length (textReply number values) ≤ 32
+pub text-fits : (number : ℕ) (values : List Figures) → length (textReply number values) ≤ 32
 unfolding textReply
 text-fits number values = either (isZero number) (textDone values) (inText (replyTo number)) 32 (text-done values) (in-text (replyTo number))
 
@@ -112,7 +112,7 @@ pub frame-fits : (address number : ℕ) (values : List Figures) → length (fram
 unfolding frameReply
 frame-fits address number values = either (isZero number) (frameDone address values) (inFrame address (replyTo number)) 16 (frame-done address values) (in-frame address (replyTo number))
 
-framed-fits : (framed : Framed) (number : ℕ) (values : List Figures) → length (frameReplied framed number values) ≤ 32
+pub framed-fits : (framed : Framed) (number : ℕ) (values : List Figures) → length (frameReplied framed number values) ≤ 32
 framed-fits NoFrame number values = omega arith
 framed-fits (Checksum address) number values = omega (arith, hex-length (frameReply address number values), frame-fits address number values)
 framed-fits (Request address parsed) number values = omega (arith, hex-length (frameReply address number values), frame-fits address number values)
@@ -176,7 +176,7 @@ two-digits n k h =
     let d : n / 1 % 10 ≡ n % 10 = omega arith in
     rw (le-ltb n 10 k, e, d)
 
-decimal-fits : (n : ℕ) → length (numberDigits n) ≤ 2
+pub decimal-fits : (n : ℕ) → length (numberDigits n) ≤ 2
 decimal-fits n = either (ltb n 10) (digitsFor 1 n) (digitsFor 2 n) 2 (omega arith) (omega arith)
 
 -- ---- head, reply and line feed

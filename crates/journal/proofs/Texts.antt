@@ -85,8 +85,8 @@ room-behind out filled h =
     let whole : length (drop filled out) ≤ length out - filled = rw length-drop (omega arith) in
     rw (take-all (length out - filled) (drop filled out) whole, length-drop) (omega arith)
 
-pub fits-behind : (at end filled : ℕ) (block out : List ℕ) → filled ≤ 40 * at → end ≡ at + indexOf lineFeed (drop at block) → end < length block → 40 * length block ≤ length out → filled + 40 ≤ length out
-fits-behind at end filled block out f e h k = omega arith
+pub fits-behind : (at filled : ℕ) (block out : List ℕ) → at ≤ length block → filled ≤ 8 * at → 8 * length block + 40 ≤ length out → filled + 40 ≤ length out
+fits-behind at filled block out h f k = omega arith
 
 -- ---- a block, and what is kept of it
 

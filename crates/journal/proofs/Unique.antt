@@ -17,7 +17,7 @@ same-count : (l l′ : List ℕ) (n n′ : ℕ) → n ≤ length l → n′ ≤ 
 same-count l l′ n n′ h h′ e = sym (length-take-le n l h) ∙ ap length e ∙ length-take-le n′ l′ h′
 
 pub feed-unique : (κs : Lfts 2) (given : Record) (end : ℕ) (buffer out b b′ x x′ : RefT (List ℕ)) (o o′ : Kept)
-    → end ≤ length (now b) → end ≤ length (now b′) → 40 * end ≤ length (now x) → 40 * end ≤ length (now x′)
+    → end ≤ length (now b) → end ≤ length (now b′) → 8 * end ≤ length (now x) → 8 * end ≤ length (now x′)
     → feed.Post κs (given, (buffer, (end, (out, tt)))) o (given, (b, (end, (x, tt))))
     → feed.Post κs (given, (buffer, (end, (out, tt)))) o′ (given, (b′, (end, (x′, tt))))
     → (o ≡ o′) × (take (o .filled) (now x) ≡ take (o′ .filled) (now x′)) × (take (o .held) (now b) ≡ take (o′ .held) (now b′))

@@ -200,4 +200,4 @@ pub record Worked (given : Record) (block out : List ℕ) (o : Done) : Type 0 wh
   pub after : o .after ≡ linesYield given (ended block) .after
   pub rest : drop (o .taken) block ≡ begun block
   pub taken-fits : o .taken ≤ length block
-  pub filled-fits : o .filled ≤ 40 * length block
+  pub filled-fits : o .filled ≤ 8 * length block

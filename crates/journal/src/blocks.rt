@@ -64,7 +64,7 @@ fn line_end(block: &[u8], from: usize) -> usize
 // Answers every line of the block that is ended. Soundness is tested once: a line leaves a sound record
 // sound, and an unsound one as it is. The record is searched only for a line that seeks an address.
 fn lines(given: Record, block: &[u8], out: &mut [u8]) -> Done
-    requires { ⌜ 40 * length (now block) ≤ length (now out) ⌝ }
+    requires { ⌜ 8 * length (now block) + 40 ≤ length (now out) ⌝ }
     ensures { λ o. ⌜ Worked given (now (block .entry)) (now (out .exit)) o ⌝ }
 {
     let fit = given.is_sound();
@@ -125,9 +125,9 @@ fn keep(buffer: &mut [u8], at: usize, end: usize) -> usize
 // Works on the first `end` bytes of the buffer: every line that is ended is answered, in `out`, and what
 // is held of the one that is not stands at the front of the buffer afterwards.
 pub fn feed(given: Record, buffer: &mut [u8], end: usize, out: &mut [u8]) -> Kept
-    requires { ⌜ (end ≤ length (now buffer)) × (40 * end ≤ length (now out)) ⌝ }
+    requires { ⌜ (end ≤ length (now buffer)) × (8 * end + 40 ≤ length (now out)) ⌝ }
     ensures { λ o. ⌜ keptSeen o (now (out .exit)) (now (buffer .exit)) ≡ fed given (take end (now (buffer .entry))) ⌝ }
-    ensures { λ o. ⌜ (o .held ≤ 601) × (o .held ≤ end) × (o .filled ≤ 40 * end) ⌝ }
+    ensures { λ o. ⌜ (o .held ≤ 601) × (o .held ≤ end) × (o .filled ≤ 8 * end) ⌝ }
 {
     let done = lines(given, &buffer[0..end], out);
     let after = done.after;

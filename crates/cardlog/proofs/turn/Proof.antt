@@ -12,7 +12,7 @@ use Rattle.cardlog.proofs.turn.Statement.{statement}
 use Rattle.cardlog.proofs.turn.Tie as tie
 
 returns : tie.Need-returns
-returns c = (failed refl refl, c .before .before .before .before .before .before .before .before .before .before .pre .0)
+returns c = (failed refl refl refl, c .before .before .before .before .before .before .before .before .before .before .pre .0)
 
 returns-2 : tie.Need-returns-2
 returns-2 c =

@@ -3,7 +3,8 @@ use Prim.Native.Nat.{_+_, _*_, _-_, _≤_, _<_}
 use mathlib.Core.Path.{_≡_, refl, sym, ap, _∙_}
 use native.Mathlib.Omega.{arith}
 use denote.Ref.{now}
-use lib.ListN.{length, take, drop}
+use lib.ListN.{length, take, drop, length-drop}
+use lib.Seq.{length-take-le}
 use mathlib.Core.Logic.{⊎-elim}
 use Rattle.card.specs.Records.{sound, zoneAt, withZone}
 use Rattle.card.specs.Answers.{numberOf, valuesOf}
@@ -11,6 +12,7 @@ use Rattle.card.specs.Steps.{afterBy}
 use Rattle.journal.specs.Journal.{Yield, lineYields}
 use Rattle.journal.specs.Steps.{soughtOf, lookUp, outputOf}
 use Rattle.journal.proofs.Judged.{unaltered, sound-kept, place-below, turn-yields}
+use Rattle.journal.proofs.Bounds.{eight-so-far}
 use Rattle.journal.proofs.Texts.{Ahead, ahead-all, ahead-turn, ahead-none, turn-ended, turn-begun, last-ended, last-begun, written-on, room-behind, fits-behind}
 use borrow.Author.Needs.{needs}
 use Rattle.journal.proofs.blocks.lines.Statement.{statement}
@@ -18,7 +20,7 @@ use Rattle.journal.proofs.blocks.lines.Tie as tie
 
 abbrev Inv-loop : tie.InvT-loop
 Inv-loop block out₀ fit values room₀ r₀ at₀ filled₀ out room r at filled =
-    (at ≤ length block) × (filled ≤ 40 * at) × (length out ≡ length out₀) × (length room ≡ 261) × (fit ≡ sound r) × Ahead r₀ block r (take filled out) (drop at block)
+    (at ≤ length block) × (filled ≤ 8 * at) × (length out ≡ length out₀) × (length room ≡ 261) × (fit ≡ sound r) × Ahead r₀ block r (take filled out) (drop at block)
 
 abbrev μ-loop : tie.MeasureT-loop
 μ-loop block out₀ fit values room₀ r₀ at₀ filled₀ out room r at filled = length block - at
@@ -53,10 +55,9 @@ element-set-from-r c =
 -- one more line of output fits
 fits : (c : tie.Else1 Inv-loop μ-loop) → c .before .before .loop .filled + 40 ≤ length (c .before .before .loop .out)
 fits c =
-    let q = c .before in
-    let p = q .before in
+    let p = c .before .before in
     let a = p .before .before .before .before .before in
-    fits-behind (p .loop .at) (q .line-end .result) (p .loop .filled) (now (a .args .block)) (p .loop .out) (p .loop .inv .1) (q .line-end .ensures) (c .if1 .left) (rw (p .loop .inv .2) (a .pre))
+    fits-behind (p .loop .at) (p .loop .filled) (now (a .args .block)) (p .loop .out) (p .loop .inv .0) (p .loop .inv .1) (rw (p .loop .inv .2) (a .pre))
 
 put-output-requires : tie.Need-put-output-requires Inv-loop μ-loop
 put-output-requires c κs =
@@ -92,6 +93,8 @@ loop-again c =
     let h : q .line-end .result < length block = c .before .before .before .before .before .before .before .before .before .before .before .before .before .before .before .before .before .if1 .left in
     let room = fits (c .before .before .before .before .before .before .before .before .before .before .before .before .before .before .before .before .before) in
     let few : c .before .before .put-output .result ≤ 40 = c .before .before .put-output .ensures .1 in
+    let wide : length line ≡ q .line-end .result - p .loop .at = length-take-le (q .line-end .result - p .loop .at) (drop (p .loop .at) block) (rw length-drop (omega arith)) in
+    let within = eight-so-far entry _ _ line _ _ (p .loop .at) (q .line-end .result) (p .loop .filled) (c .before .before .put-output .result) (n .before .before .before .before .asks .ensures) wide (omega (arith, q .line-end .ensures)) (c .before .before .put-output .ensures .0) (p .loop .inv .1) in
     let stored : j .if2 .r ≡ withZone r (n .place .result) (afterBy v (zoneAt r (n .place .result))) =
     ⊎-elim (λ w. w .2 ∙ rw (w .1 .ensures)) (λ w. w .1 ∙ sym (unaltered r (n .place .result) v (sym (j .before .alters .ensures) ∙ w .0 .left))) (j .if2 .came) in
     let sought : n .before .match .found ≡ lookUp r (soughtOf entry) =
@@ -112,7 +115,7 @@ loop-again c =
     (turn-begun block (p .loop .at) (q .line-end .result) (p .loop .inv .0) (q .line-end .ensures) h)
     yields
     (written-on (p .loop .out) _ _ (p .loop .filled) (c .before .before .put-output .result) (omega arith) (c .before .before .put-output .ensures .0)) in
-    (omega arith, omega (arith, q .line-end .ensures), c .before .out .given .1 ∙ p .loop .inv .2, c .before .before .before .before .before .before .before .before .before .before .before .before .room2 .given, sound-still, ahead)
+    (omega arith, within, c .before .out .given .1 ∙ p .loop .inv .2, c .before .before .before .before .before .before .before .before .before .before .before .before .room2 .given, sound-still, ahead)
 
 same-length : tie.Need-same-length Inv-loop μ-loop
 same-length c = c .before .before .loop .inv .2
