@@ -10,7 +10,7 @@ use lib.Dec.{ltb, eqb}
 use borrow.Author.Tests.{ltb-true, ltb-false, lt-leb, eqb-true, eq-eqb}
 use Rattle.zone.specs.declared.zones.Zone.{Zone}
 use Rattle.zone.specs.Zones.{emptyZone, holds}
-use Rattle.zone.proofs.Tests.{never, both}
+use Rattle.zone.proofs.Tests.{never, both, or-true}
 use Rattle.card.specs.declared.records.Record.{Record}
 use Rattle.card.specs.declared.records.Found.{Found}
 use Rattle.card.specs.declared.records.Found.the-variants.{At, Nowhere}
@@ -104,10 +104,6 @@ held-here : (zs : List Zone) (a n : ℕ) → holds a (getD zs n emptyZone) ≡ t
 held-here [] a n h = never h
 held-here (z ∷ zs) a zero h = rw h
 held-here (z ∷ zs) a (suc n) h = rw (held-here zs a n h) (or-true (holds a z))
-  where
-    or-true : (t : Bool) → (t || true) ≡ true
-    or-true true = refl
-    or-true false = refl
 
 one-holder : (zs : List Zone) (a m n : ℕ) → differ zs ≡ true → m < n → holds a (getD zs m emptyZone) ≡ true → holds a (getD zs n emptyZone) ≡ true → ⊥
 one-holder [] a m n d l h k = never h

@@ -20,7 +20,7 @@ use Rattle.card.specs.declared.records.Record.{Record}
 use Rattle.card.specs.Refusals.{Row, first, settled}
 use Rattle.card.specs.Records.{zoneAt, withZone, sound}
 use Rattle.card.specs.Calls.{addRows, addOf, Judgement, zoneRows, removeAt, removeOf, reportAt, reportOf, commandAt, applyOf}
-use Rattle.card.specs.Rules.{Keeps, ExactlyWhen, rowAt}
+use Rattle.card.specs.Rules.{Keeps, ExactlyWhen, rowAt, numbersIn, addOrder, removeOrder, reportOrder, applyOrder, InOrder}
 use Rattle.card.proofs.Rows.{apart, exactly}
 use Rattle.card.proofs.Steps.{same-zone}
 use Rattle.card.proofs.Stored.{zone-sound, stored-new, stored-same}
@@ -77,6 +77,27 @@ report-apart r n state actual = refl
 pub apply-apart : (r : Record) (n : ℕ) (command : Command) → apart (zoneRows r n (commandAt (zoneAt r n) command)) ≡ true
 apply-apart r n (Read group) = refl
 apply-apart r n (Write figures) = refl
+
+-- ---- and their order
+
+pub add-order : (r : Record) (n address range : ℕ) → numbersIn (addRows r n address range) ≡ addOrder
+add-order r n address range = refl
+
+pub remove-order : (r : Record) (n : ℕ) → numbersIn (zoneRows r n removeAt) ≡ removeOrder
+remove-order r n = refl
+
+pub report-order : (r : Record) (n state actual : ℕ) → numbersIn (zoneRows r n (reportAt (zoneAt r n) state actual)) ≡ reportOrder
+report-order r n state actual = refl
+
+-- a write's is the whole order, a read's its beginning
+pub write-order : (r : Record) (n : ℕ) (figures : Figures) → numbersIn (zoneRows r n (commandAt (zoneAt r n) (Write figures))) ≡ applyOrder
+write-order r n figures = refl
+
+pub apply-order : (r : Record) (n : ℕ) (command : Command) → InOrder (zoneRows r n (commandAt (zoneAt r n) command)) applyOrder
+apply-order r n (Read group) = refl
+apply-order r n (Write figures) = write-order r n figures
+
+-- ---- when each is given
 
 pub add-exactly : (r : Record) (n address range : ℕ) → ExactlyWhen (addRows r n address range) (addOf r n address range .number)
 unfolding addOf

@@ -38,6 +38,20 @@ done-after r n rows values z e = rw e
 done-zone : (r : Record) (n : ℕ) (j : Judgement) → AtZone r n j → first (zoneRows r n j) ≡ 0 → zoneAt (atZone r n j .after) n ≡ j .after
 done-zone r n j k e = ap (λ (x : Record). zoneAt x n) (done-after r n (zoneRows r n j) (j .values) (j .after) e) ∙ stored-there r n (j .after) (k .sound-record) (k .below)
 
+-- ---- where each call is done, its zone is present in a sound record
+
+pub remove-at-zone : (r : Record) (n : ℕ) → removeOf r n .number ≡ 0 → AtZone r n removeAt
+unfolding removeOf
+remove-at-zone r n e = done-at-zone r n removeAt (remove-apart r n) e
+
+pub report-at-zone : (r : Record) (n state actual : ℕ) → reportOf r n state actual .number ≡ 0 → AtZone r n (reportAt (zoneAt r n) state actual)
+unfolding reportOf
+report-at-zone r n state actual e = done-at-zone r n (reportAt (zoneAt r n) state actual) (report-apart r n state actual) e
+
+pub write-at-zone : (r : Record) (n : ℕ) (figures : Figures) → applyOf r n (Write figures) .number ≡ 0 → AtZone r n (commandAt (zoneAt r n) (Write figures))
+unfolding applyOf
+write-at-zone r n figures e = done-at-zone r n (commandAt (zoneAt r n) (Write figures)) (apply-apart r n (Write figures)) e
+
 -- ---- what each call sets
 
 pub add-sets : (r : Record) (n address range : ℕ) → addOf r n address range .number ≡ 0 → zoneAt (addOf r n address range .after) n ≡ newZone address range
@@ -49,20 +63,20 @@ add-sets r n address range e =
 
 pub remove-sets : (r : Record) (n : ℕ) → removeOf r n .number ≡ 0 → zoneAt (removeOf r n .after) n ≡ emptyZone
 unfolding removeOf
-remove-sets r n e = done-zone r n removeAt (done-at-zone r n removeAt (remove-apart r n) e) e
+remove-sets r n e = done-zone r n removeAt (remove-at-zone r n e) e
 
 pub report-sets : (r : Record) (n state actual : ℕ) → reportOf r n state actual .number ≡ 0
     → SetsStatus (zoneAt r n) (record { state = stateNumbered state; actual = actual }) (zoneAt (reportOf r n state actual .after) n)
 unfolding reportOf
 report-sets r n state actual e =
     let j = reportAt (zoneAt r n) state actual in
-    rw (done-zone r n j (done-at-zone r n j (report-apart r n state actual) e) e) (sets-status (zoneAt r n) (record { state = stateNumbered state; actual = actual }))
+    rw (done-zone r n j (report-at-zone r n state actual e) e) (sets-status (zoneAt r n) (record { state = stateNumbered state; actual = actual }))
 
 pub write-sets : (r : Record) (n : ℕ) (figures : Figures) → applyOf r n (Write figures) .number ≡ 0 → SetsFigures (zoneAt r n) figures (zoneAt (applyOf r n (Write figures) .after) n)
 unfolding applyOf
 write-sets r n figures e =
     let j = commandAt (zoneAt r n) (Write figures) in
-    rw (done-zone r n j (done-at-zone r n j (apply-apart r n (Write figures)) e) e) (sets-figures (zoneAt r n) figures)
+    rw (done-zone r n j (write-at-zone r n figures e) e) (sets-figures (zoneAt r n) figures)
 
 -- ---- reading
 
@@ -83,10 +97,6 @@ read-tells r n group s l p = (rw (s, lt-leb 16 n l, p), rw (s, lt-leb 16 n l, p)
 
 -- ---- one call after the other
 
-write-at-zone : (r : Record) (n : ℕ) (figures : Figures) → applyOf r n (Write figures) .number ≡ 0 → AtZone r n (commandAt (zoneAt r n) (Write figures))
-unfolding applyOf
-write-at-zone r n figures e = done-at-zone r n (commandAt (zoneAt r n) (Write figures)) (apply-apart r n (Write figures)) e
-
 -- a done write, to whatever record, is what a read of its group then tells: so "AHUE is read in the form last written"
 pub read-back : (r : Record) (n : ℕ) (figures : Figures) → applyOf r n (Write figures) .number ≡ 0
     → (applyOf (applyOf r n (Write figures) .after) n (Read (groupOf figures)) .number ≡ 0)
@@ -96,10 +106,6 @@ read-back r n figures e =
     let sets = write-sets r n figures e in
     let told = read-tells (applyOf r n (Write figures) .after) n (groupOf figures) (apply-keeps r n (Write figures) .stays (k .sound-record)) (k .below) (sets .head .present ∙ k .present) in
     (told .0, rw (sets .itsGroup) at (told .1))
-
-remove-at-zone : (r : Record) (n : ℕ) → removeOf r n .number ≡ 0 → AtZone r n removeAt
-unfolding removeOf
-remove-at-zone r n e = done-at-zone r n removeAt (remove-apart r n) e
 
 remove-after : (r : Record) (n : ℕ) → removeOf r n .number ≡ 0 → removeOf r n .after ≡ withZone r n emptyZone
 unfolding removeOf
@@ -120,6 +126,7 @@ remove-frees r n e =
     let free : heldIn (gone .zones) address ≡ false = rw (remove-after r n e) (freed (r .zones) n (sound-parts r (k .sound-record) .addresses) (k .present)) in
     record {
       zone = remove-sets r n e;
+      unheld = free;
       number = λ a range i d h. add-done gone n a range s (k .below) (ap (λ (z : Zone). z .present) (remove-sets r n e)) i d h;
       address = λ m range l p d. add-done gone m address range s l p in-range d free;
     }

@@ -9,7 +9,7 @@ use borrow.Author.Tests.{eqb-true, eq-eqb, not-true}
 use Rattle.zone.specs.declared.zones.Zone.{Zone}
 use Rattle.zone.specs.Lists.{every}
 use Rattle.zone.specs.Zones.{emptyZone, zoneSound, holds}
-use Rattle.zone.proofs.Tests.{never, and-l, and-r, both, neither, eqb-sym}
+use Rattle.zone.proofs.Tests.{never, and-l, and-r, both, neither, eqb-sym, or-true}
 use Rattle.zone.proofs.Sound.{empty-sound}
 use Rattle.card.specs.declared.records.Record.{Record}
 use Rattle.card.specs.Records.{zoneAt, withZone, heldIn, differ, sound}
@@ -75,10 +75,6 @@ held-at : (zs : List Zone) (n : ℕ) → getD zs n emptyZone .present ≡ true �
 held-at [] n p = never p
 held-at (x ∷ xs) zero p = rw (p, eq-eqb (x .address) (x .address) refl)
 held-at (x ∷ xs) (suc n) p = rw (held-at xs n p) (or-true (holds (getD xs n emptyZone .address) x))
-  where
-    or-true : (t : Bool) → (t || true) ≡ true
-    or-true true = refl
-    or-true false = refl
 
 pub freed : (zs : List Zone) (n : ℕ) → differ zs ≡ true → getD zs n emptyZone .present ≡ true → heldIn (set zs n emptyZone) (getD zs n emptyZone .address) ≡ false
 freed [] n s p = refl

@@ -3,8 +3,8 @@ use Prim.Native.Nat.{ℕ, _<_}
 use mathlib.Core.Path.{_≡_}
 use mathlib.Core.Logic.{_↔_, _⊎_}
 use mathlib.Core.Bool.{true, false}
-use mathlib.Core.List.{List, []}
-use lib.ListN.{length, getD}
+use mathlib.Core.List.{List, [], _∷_, map}
+use lib.ListN.{length, getD, take}
 use Rattle.zone.specs.Zones.{emptyZone, addressInRange, rangeKnown, holds}
 use Rattle.card.specs.declared.records.Record.{Record}
 use Rattle.card.specs.Answers.{Result}
@@ -36,10 +36,37 @@ pub record ExactlyWhen (rows : List Row) (number : ℕ) : Type 0 where
   -- no other number is given
   pub only : (number ≡ 0) ⊎ ((i : ℕ) × (i < length rows) × (number ≡ rowAt rows i .number))
 
+-- ---- "the first in the call's order"
+
+-- the numbers of a list of refusals, in its order
+abbrev pub numbersIn : List Row → List ℕ
+numbersIn rows = map (λ row. row .number) rows
+
+-- "Adding a zone (zone, address, range): 2, 3, 12, 9, 11. Removing: 2, 3. Reporting state and actual value: 2, 3, 9."
+abbrev pub addOrder : List ℕ
+addOrder = 2 ∷ 3 ∷ 12 ∷ 9 ∷ 11 ∷ []
+
+abbrev pub removeOrder : List ℕ
+removeOrder = 2 ∷ 3 ∷ []
+
+abbrev pub reportOrder : List ℕ
+reportOrder = 2 ∷ 3 ∷ 9 ∷ []
+
+-- applying a command: that of a line without 1, 7 and 8
+abbrev pub applyOrder : List ℕ
+applyOrder = 2 ∷ 3 ∷ 9 ∷ 10 ∷ []
+
+-- The refusals stand in the printed order: all of it or, where what is asked cannot be refused for the rest, its beginning.
+-- add-order, remove-order, report-order, apply-order and, of a write, write-order, in proofs/Kept.antt
+abbrev pub InOrder : List Row → List ℕ → Type 0
+InOrder rows printed = numbersIn rows ≡ take (length rows) printed
+
 -- "Removing empties the zone; its number and address may be used again".
 -- remove-frees, in proofs/Sets.antt: of the record after zone n of r was removed
 pub record Frees (r : Record) (n : ℕ) (after : Record) : Type 0 where
   pub zone : zoneAt after n ≡ emptyZone
+  -- no zone holds the address that it had
+  pub unheld : heldIn (after .zones) (zoneAt r n .address) ≡ false
   -- the number, with any address that is free
   pub number : (address range : ℕ) → addressInRange address ≡ true → rangeKnown range ≡ true → heldIn (after .zones) address ≡ false → addOf after n address range .number ≡ 0
   -- the address, at any zone that is absent, that of old among them

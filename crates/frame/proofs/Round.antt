@@ -54,7 +54,8 @@ lawful = record {
 
 -- ---- there
 
-index-again : (g : Group) → groupIndexed (index g) ≡ Is g
+-- "The index byte alone names the group"
+pub index-again : (g : Group) → groupIndexed (index g) ≡ Is g
 unfolding groupIndexed
 index-again Ahue = refl
 index-again Hzbg = refl

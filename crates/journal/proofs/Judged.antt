@@ -37,7 +37,7 @@ use Rattle.roads.specs.Acknowledgements.{textReply, frameReply}
 use Rattle.roads.specs.Calls.{isNowhere, zoneFound, holder, resultAt, textResult, frameResult, answerText, answerFrame}
 use Rattle.roads.specs.Steps.{askedBy}
 use Rattle.roads.proofs.CallLaws.{asked-text, no-shape, bad-sum, right-sum, held-sum, held-right}
-use Rattle.session.specs.Sessions.{text, frame, add, remove, report}
+use Rattle.session.specs.Sessions.{text, frame, add, remove, report, inRoom, quiet}
 use Rattle.session.proofs.Demand3.{stays-sound}
 use Rattle.journal.specs.declared.asking.Entry.{Entry}
 use Rattle.journal.specs.declared.asking.Entry.the-variants.{Add, Remove, Report, Text, Frame, Unreadable}
@@ -265,11 +265,11 @@ unsound-kept r (Frame framed) h = rw h
 unsound-kept r Unreadable h = refl
 
 call-kept : (r : Record) (asks : Asks) → sound r ≡ true → sound (yieldOf r asks .after) ≡ true
-call-kept r (adds zone address range) h = stays-sound r (add zone address range ∷ []) h
-call-kept r (removes zone) h = stays-sound r (remove zone ∷ []) h
-call-kept r (reports zone state actual) h = stays-sound r (report zone state actual ∷ []) h
-call-kept r (says zone line) h = stays-sound r (text zone line lent ∷ []) h
-call-kept r (frames bytes) h = stays-sound r (frame bytes lent ∷ []) h
+call-kept r (adds zone address range) h = stays-sound r (quiet (add zone address range) ∷ []) h
+call-kept r (removes zone) h = stays-sound r (quiet (remove zone) ∷ []) h
+call-kept r (reports zone state actual) h = stays-sound r (quiet (report zone state actual) ∷ []) h
+call-kept r (says zone line) h = stays-sound r (inRoom (text zone line) lent ∷ []) h
+call-kept r (frames bytes) h = stays-sound r (inRoom (frame bytes) lent ∷ []) h
 call-kept r unreadable h = h
 
 pub sound-kept : (r : Record) (line : List ℕ) → sound (lineYields r line .after) ≡ sound r

@@ -4,7 +4,7 @@ use mathlib.Core.List.{List, [], _∷_, _++_}
 use lib.ListN.{replicate}
 use Rattle.card.specs.declared.records.Record.{Record}
 use Rattle.roads.specs.Calls.{Answered, replyIn}
-use Rattle.session.specs.Sessions.{Call, text, frame, add, remove, report, answerTo}
+use Rattle.session.specs.Sessions.{text, frame, add, remove, report, Call, inRoom, quiet, answerTo}
 use Rattle.journal.specs.Numbers.{numberDigits, inHex}
 use Rattle.journal.specs.Lines.{Asks, adds, removes, reports, says, frames, unreadable, N, X, M, T, F, E, tab, asksOf}
 
@@ -37,11 +37,11 @@ asItIs reply = reply
 
 -- each letter is a call of the card, and "an F reply [is] in capital hex"; "an unreadable line yields E, 13, "-"", and is "skipped whole"
 abbrev pub yieldOf : Record → Asks → Yield
-yieldOf r (adds zone address range) = shown N asItIs (answerTo r (add zone address range))
-yieldOf r (removes zone) = shown X asItIs (answerTo r (remove zone))
-yieldOf r (reports zone state actual) = shown M asItIs (answerTo r (report zone state actual))
-yieldOf r (says zone line) = shown T asItIs (answerTo r (text zone line lent))
-yieldOf r (frames bytes) = shown F inHex (answerTo r (frame bytes lent))
+yieldOf r (adds zone address range) = shown N asItIs (answerTo r (quiet (add zone address range)))
+yieldOf r (removes zone) = shown X asItIs (answerTo r (quiet (remove zone)))
+yieldOf r (reports zone state actual) = shown M asItIs (answerTo r (quiet (report zone state actual)))
+yieldOf r (says zone line) = shown T asItIs (answerTo r (inRoom (text zone line) lent))
+yieldOf r (frames bytes) = shown F inHex (answerTo r (inRoom (frame bytes) lent))
 yieldOf r unreadable = record { output = outputLine E 13 []; after = r }
 
 -- what a line does
@@ -59,11 +59,11 @@ linesYield r (line ∷ lines) = record {
 -- the calls that lines make of the card: one each, and none where a line is unreadable.
 -- So a log is a session (is-session, in proofs/Cuts.antt), and what is proved of every session holds of every log
 abbrev pub callOf : Asks → List Call
-callOf (adds zone address range) = add zone address range ∷ []
-callOf (removes zone) = remove zone ∷ []
-callOf (reports zone state actual) = report zone state actual ∷ []
-callOf (says zone line) = text zone line lent ∷ []
-callOf (frames bytes) = frame bytes lent ∷ []
+callOf (adds zone address range) = quiet (add zone address range) ∷ []
+callOf (removes zone) = quiet (remove zone) ∷ []
+callOf (reports zone state actual) = quiet (report zone state actual) ∷ []
+callOf (says zone line) = inRoom (text zone line) lent ∷ []
+callOf (frames bytes) = inRoom (frame bytes) lent ∷ []
 callOf unreadable = []
 
 abbrev pub callsIn : List (List ℕ) → List Call

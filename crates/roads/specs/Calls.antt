@@ -83,6 +83,10 @@ resultAt r n rows parsed = settled r rows (parsedAt (zoneAt r n) parsed .values)
 
 -- ---- "Text: 1, 2, 3, 7, 8, 9, 10"
 
+abbrev pub textOrder : List ℕ
+textOrder = 1 ∷ 2 ∷ 3 ∷ 7 ∷ 8 ∷ 9 ∷ 10 ∷ []
+
+-- a write's refusals are all of these; those of a read, or of a line that is no command, are their beginning: write-line-order and text-order, in proofs/Exactly.antt
 abbrev pub textRows : Record → ℕ → List ℕ → List ℕ → List Row
 textRows r n line room = (tooSmall room gives 1) ∷ (not (sound r) gives 2) ∷ (noZone r n gives 3) ∷ parsedRows (zoneAt r n) (lineRead line)
 
@@ -97,6 +101,9 @@ answerText r n line room = inTextReply (textResult r n line room) room
 
 -- ---- "Frame: 1, 2, 4, 5, 6, 7, 8, 9, 10"
 
+abbrev pub frameOrder : List ℕ
+frameOrder = 1 ∷ 2 ∷ 4 ∷ 5 ∷ 6 ∷ 7 ∷ 8 ∷ 9 ∷ 10 ∷ []
+
 -- "no present zone holds the address"
 abbrev pub isNowhere : Found → Bool
 isNowhere (At n) = false
@@ -110,6 +117,7 @@ zoneFound Nowhere = 16
 abbrev pub holder : Record → List ℕ → Found
 holder r frame = findOf r (addressIn frame)
 
+-- as with a line: write-frame-order and frame-order
 abbrev pub frameRows : Record → List ℕ → List ℕ → List Row
 frameRows r frame room =
     (tooSmall room gives 1)
@@ -129,6 +137,9 @@ unfoldable pub answerFrame : Record → List ℕ → List ℕ → Answered
 answerFrame r frame room = inFrameReply (addressIn frame) (frameResult r frame room) room
 
 -- ---- "Composing: 1, 9"
+
+abbrev pub composeOrder : List ℕ
+composeOrder = 1 ∷ 9 ∷ []
 
 abbrev pub composedSeen : Composed → List ℕ → Said
 composedSeen o room = record { number = numberOf (o .answer); values = valuesOf (o .answer); length = o .length; room = room }

@@ -2,7 +2,6 @@
 use Prim.Native.Nat.{ℕ, _+_, _*_, _-_}
 use mathlib.Core.Bool.{cond}
 use mathlib.Core.List.{List, [], _∷_}
-use lib.ListN.{replicate}
 use lib.Dec.{ltb, eqb}
 use Prim.Native.String.{String}
 use Rattle.zone.specs.declared.figures.Figures.the-variants.{AhueWindow, HzbgLimit, RrueReference, SolwSetpoint}
@@ -105,8 +104,9 @@ examples =
 abbrev pub with5 : Zone → Record
 with5 z = withZone emptyRecord 5 z
 
+-- room of 36 bytes, each another, so that one which is cleared, moved or written past the reply is seen
 abbrev pub room : List ℕ
-room = replicate 32 0
+room = ascii "abcdefghijklmnopqrstuvwxyz0123456789"
 
 -- what is compared: number, length of the reply, the whole room, and the record. (A read's figures are in its reply.)
 pub record Seen : Type 0 where

@@ -1,10 +1,11 @@
 -- Demand 2, gathered from the roads: replies; composing reads back; replies made writes; acknowledgements differ. Assumes nothing.
 use Prim.Native.Nat.{ℕ, _≤_}
-use mathlib.Core.Path.{_≡_, refl, sym, ap, ap₂, _∙_}
+use mathlib.Core.Path.{_≡_, refl, sym, ap, _∙_}
 use mathlib.Core.Bool.{true, false, cond}
 use mathlib.Core.List.{List, [], _∷_}
 use lib.ListN.{length}
 use Rattle.zone.specs.declared.figures.Figures.{Figures}
+use Rattle.zone.specs.declared.figures.Command.{Command}
 use Rattle.zone.specs.declared.figures.Command.the-variants.{Read, Write}
 use Rattle.zone.specs.declared.figures.Group.{Group}
 use Rattle.zone.specs.Zones.{figuresOf}
@@ -16,44 +17,48 @@ use Rattle.card.specs.Calls.{applyOf}
 use Rattle.card.proofs.Sets.{read-tells, read-alters-nothing}
 use Rattle.wire.specs.declared.Parsed.the-variants.{Known}
 use Rattle.wire.specs.Road.{carriesCommand}
-use Rattle.wire.specs.Room.{filled}
-use Rattle.line.specs.Line.{textRoad, lineOf}
-use Rattle.frame.specs.Frame.{frameRoad, frameOf, shortFrame, addressIn}
+use Rattle.line.specs.Line.{A, textRoad, lineWith, lineOf}
+use Rattle.frame.specs.Frame.{frameRoad, bodyWith, framed, frameOf, shortFrame, addressIn}
 use Rattle.frame.proofs.Round.{frame-reads}
 use Rattle.roads.specs.declared.answering.Acknowledgement.the-variants.{Okay}
 use Rattle.roads.specs.Acknowledgements.{textOf, textReply, frameReply}
-use Rattle.roads.specs.Calls.{textResult, frameResult, inTextReply, answerText, inFrameReply, answerFrame}
+use Rattle.roads.specs.Calls.{Said, said, replyIn, textResult, frameResult, inTextReply, answerText, inFrameReply, answerFrame, composedLine, composedFrame}
 use Rattle.roads.proofs.CallLaws.{right-sum}
-use Rattle.roads.proofs.Applied.{text-applies, frame-applies, text-read-reply, frame-read-reply}
-use Rattle.roads.proofs.ReadBack.{line-reads-back, frame-reads-back}
+use Rattle.roads.proofs.Applied.{text-applies, frame-applies}
+use Rattle.roads.proofs.ReadBack.{line-composed, line-carried, frame-composed, frame-carried, line-reads-back, frame-reads-back}
 use Rattle.roads.proofs.Replies.{text-reply-writes, frame-reply-writes, texts-differ, bytes-differ}
-use Rattle.session.proofs.Done.{line-done, frame-done}
-use Rattle.session.specs.Demands.{Present, Told, ReadsAreReplied, WritesAreReplied, ComposedReadsBack, AcknowledgementsDiffer}
+use Rattle.session.specs.Sessions.{apply, quiet, answerTo}
+use Rattle.session.specs.Demands.{Present, tells, Same, ReadsAreReplied, WritesAreReplied, ComposedReadsBack, AcknowledgementsDiffer}
+use Rattle.session.proofs.Done.{Applied, line-done, frame-done}
 
 -- whichever road the read came by
-told : (r : Record) (n : ℕ) (g : Group) (o : Result Record) → Present r n → o ≡ applyOf r n (Read g) → (o .number ≡ 0) × (o .values ≡ figuresOf (zoneAt r n) g ∷ []) × (o .after ≡ r)
-told r n g o p e =
+told : (r : Record) (n : ℕ) (g : Group) → Present r n → applyOf r n (Read g) ≡ record { number = 0; values = figuresOf (zoneAt r n) g ∷ []; after = r }
+told r n g p =
     let t = read-tells r n g (p .sound-record) (p .below) (p .present) in
-    (ap (λ (x : Result Record). x .number) e ∙ t .0, ap (λ (x : Result Record). x .values) e ∙ t .1, ap (λ (x : Result Record). x .after) e ∙ read-alters-nothing r n g)
+    λ i. record { number = t .0 i; values = t .1 i; after = read-alters-nothing r n g i }
 
-told-by-line : (r : Record) (n : ℕ) (g : Group) (room : List ℕ) → Present r n → 32 ≤ length room → Told r n g (answerText r n (lineOf (Read g)) room)
-unfolding answerText carriesCommand
-told-by-line r n g room p h =
-    let t = told r n g (textResult r n (lineOf (Read g)) room) p (text-applies r n (Read g) room h refl) in
-    record { number = t .0; figures = t .1; record-kept = t .2 }
+-- the address under which a frame of a command is answered
+own-address : (a : ℕ) (c : Command) → carriesCommand frameRoad c ≡ true → addressIn (frameOf a c) ≡ a
+own-address a c k = sym (right-sum (frameOf a c) a (Known c) (frame-reads a c k) .2)
 
-told-by-frame : (r : Record) (n : ℕ) (g : Group) (room : List ℕ) → Present r n → 32 ≤ length room → Told r n g (answerFrame r (frameOf (zoneAt r n .address) (Read g)) room)
-unfolding answerFrame carriesCommand
-told-by-frame r n g room p h =
-    let t = told r n g (frameResult r (frameOf (zoneAt r n .address) (Read g)) room) p (frame-applies r n (Read g) room (p .sound-record) (p .present) h refl) in
-    record { number = t .0; figures = t .1; record-kept = t .2 }
+read-line : (r : Record) (n : ℕ) (g : Group) (room : List ℕ) → Present r n → 32 ≤ length room
+    → answerText r n (lineOf (Read g)) room ≡ record { said = tells (figuresOf (zoneAt r n) g) (lineWith A (figuresOf (zoneAt r n) g)) room; after = r }
+unfolding answerText textReply carriesCommand
+read-line r n g room p h = ap (λ (o : Result Record). inTextReply o room) (text-applies r n (Read g) room h refl ∙ told r n g p)
+
+read-frame : (r : Record) (n : ℕ) (g : Group) (room : List ℕ) → Present r n → 32 ≤ length room
+    → answerFrame r (frameOf (zoneAt r n .address) (Read g)) room
+    ≡ record { said = tells (figuresOf (zoneAt r n) g) (framed (bodyWith (zoneAt r n .address) 0x00 (figuresOf (zoneAt r n) g))) room; after = r }
+unfolding answerFrame frameReply carriesCommand
+read-frame r n g room p h =
+    let a = zoneAt r n .address in
+    ap (λ (o : Result Record). inFrameReply (addressIn (frameOf a (Read g))) o room) (frame-applies r n (Read g) room (p .sound-record) (p .present) h refl ∙ told r n g p)
+    ∙ ap (λ (x : ℕ). inFrameReply x (record { number = 0; values = figuresOf (zoneAt r n) g ∷ []; after = r }) room) (own-address a (Read g) refl)
 
 pub replies : ReadsAreReplied
 replies r n g room p h = record {
-  told-by-line = told-by-line r n g room p h;
-  told-by-frame = told-by-frame r n g room p h;
-  by-line = text-read-reply r n g room (p .sound-record) (p .below) (p .present) h;
-  by-frame = frame-read-reply r n g room (p .sound-record) (p .below) (p .present) h;
+  by-line = read-line r n g room p h;
+  by-frame = read-frame r n g room p h;
   line-writes = text-reply-writes r n g (p .sound-record) (p .present) .1;
   frame-writes = frame-reply-writes r n g (zoneAt r n .address) (p .sound-record) (p .present) .1;
 }
@@ -63,30 +68,47 @@ no-values : (r : Record) (n : ℕ) (f : Figures) → applyOf r n (Write f) .valu
 unfolding applyOf
 no-values r n f = elim (isZero (applyOf r n (Write f) .number)) as (λ b. cond {A = List Figures} b [] [] ≡ []) [ true ↦ refl | false ↦ refl ]
 
+-- so what came of a done write is 0, nothing told, and the record
+write-done : {o : Result Record} (r : Record) (n : ℕ) (f : Figures) → Applied o r n (Write f) → o ≡ record { number = 0; values = []; after = applyOf r n (Write f) .after }
+write-done r n f w = w .same ∙ (λ i. record { number = w .done i; values = no-values r n f i; after = applyOf r n (Write f) .after })
+
 line-reply : (r : Record) (n : ℕ) (f : Figures) (room : List ℕ) → carriesCommand textRoad (Write f) ≡ true → answerText r n (lineOf (Write f)) room .said .number ≡ 0
-    → answerText r n (lineOf (Write f)) room .said .room ≡ filled (textOf Okay) room
+    → answerText r n (lineOf (Write f)) room .said ≡ said 0 [] (textOf Okay) room
 unfolding answerText textReply
-line-reply r n f room k e =
-    let w = line-done r n (Write f) room k e in
-    ap (λ (o : Result Record). inTextReply o room .said .room) (w .same) ∙ ap₂ (λ (number : ℕ) (values : List Figures). filled (textReply number values) room) (w .done) (no-values r n f)
+line-reply r n f room k e = ap (λ (o : Result Record). inTextReply o room .said) (write-done r n f (line-done r n (Write f) room k e))
 
 frame-reply : (r : Record) (n : ℕ) (f : Figures) (room : List ℕ) → Present r n → carriesCommand frameRoad (Write f) ≡ true → answerFrame r (frameOf (zoneAt r n .address) (Write f)) room .said .number ≡ 0
-    → answerFrame r (frameOf (zoneAt r n .address) (Write f)) room .said .room ≡ filled (shortFrame (zoneAt r n .address) 0x00) room
+    → answerFrame r (frameOf (zoneAt r n .address) (Write f)) room .said ≡ said 0 [] (shortFrame (zoneAt r n .address) 0x00) room
 unfolding answerFrame frameReply
 frame-reply r n f room p k e =
     let a = zoneAt r n .address in
-    let bytes = frameOf a (Write f) in
-    let w = frame-done r n (Write f) room p k e in
-    let to = right-sum bytes a (Known (Write f)) (frame-reads a (Write f) k) in
-    ap (λ (o : Result Record). inFrameReply (addressIn bytes) o room .said .room) (w .same)
-    ∙ ap₂ (λ (number : ℕ) (values : List Figures). filled (frameReply (addressIn bytes) number values) room) (w .done) (no-values r n f)
-    ∙ ap (λ (x : ℕ). filled (frameReply x 0 []) room) (sym (to .2))
+    ap (λ (o : Result Record). inFrameReply (addressIn (frameOf a (Write f))) o room .said) (write-done r n f (frame-done r n (Write f) room p k e))
+    ∙ ap (λ (x : ℕ). said 0 [] (frameReply x 0 []) room) (own-address a (Write f) k)
 
 pub write-replies : WritesAreReplied
 write-replies r n f room = record { by-line = line-reply r n f room; by-frame = frame-reply r n f room }
 
+-- ---- what is composed, sent
+
+same-of : (o p : Result Record) (s t : Said) → o ≡ p → s .number ≡ o .number → s .values ≡ o .values → t .number ≡ p .number → t .values ≡ p .values → Same (record { said = s; after = o .after }) (record { said = t; after = p .after })
+same-of o p s t e a b c d = record { same-record = ap (λ (x : Result Record). x .after) e; same-number = a ∙ ap (λ (x : Result Record). x .number) e ∙ sym c; same-figures = b ∙ ap (λ (x : Result Record). x .values) e ∙ sym d }
+
+line-sent : (c : Command) (room : List ℕ) → composedLine c room .number ≡ 0 → (r : Record) (n : ℕ) (room′ : List ℕ) → 32 ≤ length room′
+    → Same (answerText r n (replyIn (composedLine c room)) room′) (answerTo r (quiet (apply n c)))
+unfolding answerText
+line-sent c room e r n room′ h =
+    let same = ap (λ (l : List ℕ). textResult r n l room′) (line-composed c room e) ∙ text-applies r n c room′ h (line-carried c room e) in
+    same-of (textResult r n (replyIn (composedLine c room)) room′) (applyOf r n c) _ _ same refl refl refl refl
+
+frame-sent : (a : ℕ) (c : Command) (room : List ℕ) → composedFrame a c room .number ≡ 0 → (r : Record) (n : ℕ) (room′ : List ℕ) → Present r n → zoneAt r n .address ≡ a → 32 ≤ length room′
+    → Same (answerFrame r (replyIn (composedFrame a c room)) room′) (answerTo r (quiet (apply n c)))
+unfolding answerFrame
+frame-sent a c room e r n room′ p q h =
+    let same = ap (λ (l : List ℕ). frameResult r l room′) (frame-composed a c room e ∙ ap (λ (x : ℕ). frameOf x c) (sym q)) ∙ frame-applies r n c room′ (p .sound-record) (p .present) h (frame-carried a c room e) in
+    same-of (frameResult r (replyIn (composedFrame a c room)) room′) (applyOf r n c) _ _ same refl refl refl refl
+
 pub reads-back : ComposedReadsBack
-reads-back a c room = record { line-back = line-reads-back c room; frame-back = frame-reads-back a c room }
+reads-back a c room = record { line-back = line-reads-back c room; frame-back = frame-reads-back a c room; line-sent = line-sent c room; frame-sent = frame-sent a c room }
 
 pub differ : AcknowledgementsDiffer
 differ a b = record { in-text = texts-differ a b; in-frames = bytes-differ a b }

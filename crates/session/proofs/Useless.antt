@@ -1,41 +1,89 @@
--- The card that stores the first command of a session and only acknowledges later ones is shut out: every write that is answered as done is stored, whatever came before. Cites write-sets of the card, the law that the edit zone/must-fail/stores_first_only breaks.
+-- The card that stores the first command of a session and only acknowledges later ones is shut out: every write that is answered as done is stored, whatever came before, and stays until its group is written again or its zone is removed.
+-- Cites write-sets of the card, the law that the edit zone/must-fail/stores_first_only breaks. Assumes nothing.
 use Prim.Native.Nat.{ℕ}
-use mathlib.Core.Path.{_≡_, ap, _∙_}
-use mathlib.Core.Bool.{true}
-use mathlib.Core.List.{List}
+use mathlib.Core.Path.{_≡_, refl, sym, ap, _∙_}
+use mathlib.Core.Bool.{Bool, true, false}
+use mathlib.Core.List.{List, [], _∷_}
+use lib.Dec.{eqb}
+use borrow.Author.Tests.{eqb-true, eqb-false}
 use Rattle.zone.specs.declared.figures.Figures.{Figures}
+use Rattle.zone.specs.declared.figures.Group.{Group}
 use Rattle.zone.specs.declared.figures.Command.the-variants.{Write}
+use Rattle.zone.specs.declared.zones.Zone.{Zone}
+use Rattle.zone.specs.Table.{index}
 use Rattle.zone.specs.Figures.{groupOf}
 use Rattle.zone.specs.Zones.{figuresOf}
+use Rattle.zone.proofs.Tests.{never}
 use Rattle.card.specs.declared.records.Record.{Record}
 use Rattle.card.specs.Answers.{Result}
 use Rattle.card.specs.Records.{zoneAt}
+use Rattle.card.specs.Calls.{applyOf}
+use Rattle.card.proofs.Kept.{apply-keeps}
 use Rattle.card.proofs.Sets.{write-sets}
 use Rattle.wire.specs.Road.{carriesCommand}
 use Rattle.line.specs.Line.{textRoad, lineOf}
-use Rattle.frame.specs.Frame.{frameRoad, frameOf}
+use Rattle.wire.specs.declared.Named.the-variants.{Is}
+use Rattle.frame.specs.Frame.{frameRoad, frameOf, groupIndexed}
+use Rattle.frame.proofs.Round.{index-again}
 use Rattle.roads.specs.Calls.{answerText, answerFrame}
+use Rattle.session.specs.Sessions.{Call, after, run}
+use Rattle.session.specs.Changes.{Becomes, stays, written, was-reported, was-removed, was-added, NotRewritten}
+use Rattle.session.specs.Demands.{Present, Stored, EveryWriteIsStored, StaysStored}
 use Rattle.session.proofs.Done.{Applied, line-done, frame-done}
-use Rattle.session.specs.Sessions.{run}
-use Rattle.session.specs.Demands.{Present, EveryWriteIsStored}
+use Rattle.session.proofs.Changes.{becomes}
 
--- whichever road it came by
-stored : {o : Result Record} (r : Record) (n : ℕ) (f : Figures) → Applied o r n (Write f) → figuresOf (zoneAt (o .after) n) (groupOf f) ≡ f
-stored r n f w = ap (λ (o : Result Record). figuresOf (zoneAt (o .after) n) (groupOf f)) (w .same) ∙ write-sets r n f (w .done) .itsGroup
+-- ---- stored, whichever way it came
+
+applied : (r : Record) (n : ℕ) (f : Figures) → applyOf r n (Write f) .number ≡ 0 → Stored r n f (applyOf r n (Write f) .after)
+applied r n f d = record { sets = write-sets r n f d; others = apply-keeps r n (Write f) .others }
+
+came : {o : Result Record} (r : Record) (n : ℕ) (f : Figures) → Applied o r n (Write f) → Stored r n f (o .after)
+came r n f w = rw (w .same) (applied r n f (w .done))
 
 as-line : (r : Record) (n : ℕ) (f : Figures) (room : List ℕ) → carriesCommand textRoad (Write f) ≡ true → answerText r n (lineOf (Write f)) room .said .number ≡ 0
-    → figuresOf (zoneAt (answerText r n (lineOf (Write f)) room .after) n) (groupOf f) ≡ f
+    → Stored r n f (answerText r n (lineOf (Write f)) room .after)
 unfolding answerText
-as-line r n f room k e = stored r n f (line-done r n (Write f) room k e)
+as-line r n f room k e = came r n f (line-done r n (Write f) room k e)
 
 as-frame : (r : Record) (n : ℕ) (f : Figures) (room : List ℕ) → Present r n → carriesCommand frameRoad (Write f) ≡ true → answerFrame r (frameOf (zoneAt r n .address) (Write f)) room .said .number ≡ 0
-    → figuresOf (zoneAt (answerFrame r (frameOf (zoneAt r n .address) (Write f)) room .after) n) (groupOf f) ≡ f
+    → Stored r n f (answerFrame r (frameOf (zoneAt r n .address) (Write f)) room .after)
 unfolding answerFrame
-as-frame r n f room p k e = stored r n f (frame-done r n (Write f) room p k e)
+as-frame r n f room p k e = came r n f (frame-done r n (Write f) room p k e)
 
 pub every-write-is-stored : EveryWriteIsStored
 every-write-is-stored r calls n f room = record {
-  applied = λ e. write-sets (run r calls) n f e .itsGroup;
+  applied = applied (run r calls) n f;
   as-line = as-line (run r calls) n f room;
   as-frame = as-frame (run r calls) n f room;
 }
+
+-- ---- and it stays
+
+-- "The index byte alone names the group": so two groups are the same or not as their indices are
+same-group : (g h : Group) {P : Type 0} → (g ≡ h → P) → ((g ≡ h → ⊥) → P) → P
+same-group g h {P} f u = by-index (eqb (index g) (index h)) refl
+  where
+    by-index : (t : Bool) → eqb (index g) (index h) ≡ t → P
+    by-index true e = let named : Is g ≡ Is h = sym (index-again g) ∙ ap groupIndexed (eqb-true (index g) (index h) e) ∙ index-again h in f (cc)
+    by-index false e = u (λ q. eqb-false (index g) (index h) e (ap index q))
+
+-- what is kept of the zone from call to call: it is present, and has the group's figures
+record Kept (group : Group) (before after : Zone) : Type 0 where
+  present : after .present ≡ true
+  figures : figuresOf after group ≡ figuresOf before group
+
+one-kept : (r : Record) (n : ℕ) (group : Group) (call : Call) → zoneAt r n .present ≡ true → NotRewritten n group r call → Kept group (zoneAt r n) (zoneAt (after r call) n)
+one-kept r n group call p u = by-change (becomes r call n)
+  where
+    by-change : {z : Zone} → Becomes r n call z → Kept group (zoneAt r n) z
+    by-change (stays s) = rw s (record { present = p; figures = refl })
+    by-change (written f w q s) = same-group group (groupOf f) (λ e. absurd (u .not-written f (sym e) w)) (λ v. record { present = s .head .present ∙ p; figures = s .otherGroups group v })
+    by-change (was-reported state actual w q s) = record { present = s .head .present ∙ p; figures = s .groups group }
+    by-change (was-removed w q s) = absurd (u .not-removed w)
+    by-change (was-added address range w q s) = never (sym q ∙ p)
+
+pub stays-stored : StaysStored
+stays-stored r n group [] p u = refl
+stays-stored r n group (call ∷ calls) p u =
+    let k = one-kept r n group call p (u .0) in
+    stays-stored (after r call) n group calls (k .present) (u .1) ∙ k .figures

@@ -1,5 +1,5 @@
 -- The three demands, in the buyer's order and words. Above each statement stands where it is proved.
--- "P → ⊥" says that P does not hold, "P ⊎ Q" that one of the two does, "P × Q" that both do; "Unit {0}" always holds.
+-- "P → ⊥" says that P does not hold, "P ⊎ Q" that one of the two does, "P × Q" that both do.
 use Prim.Native.Nat.{ℕ, _≤_, _<_, min}
 use mathlib.Core.Path.{_≡_}
 use mathlib.Core.Logic.{_⊎_}
@@ -14,107 +14,132 @@ use Rattle.zone.specs.declared.figures.Command.the-variants.{Read, Write}
 use Rattle.zone.specs.Lists.{some, every}
 use Rattle.zone.specs.Table.{Kind, flag, limit, time}
 use Rattle.zone.specs.Figures.{groupOf, entriesOf}
-use Rattle.zone.specs.Zones.{emptyZone, figuresOf}
+use Rattle.zone.specs.Zones.{emptyZone, figuresOf, addressInRange}
+use Rattle.zone.specs.Rules.{SetsFigures}
 use Rattle.card.specs.declared.records.Record.{Record}
 use Rattle.card.specs.declared.records.Found.the-variants.{Nowhere}
+use Rattle.card.specs.Refusals.{Row, first}
 use Rattle.card.specs.Records.{zoneAt, sound, findOf}
+use Rattle.card.specs.Calls.{addRows, zoneRows, removeAt, reportAt, commandAt}
+use Rattle.card.specs.Rules.{addOrder, removeOrder, reportOrder, applyOrder, InOrder}
 use Rattle.wire.specs.declared.Parsed.the-variants.{Known}
 use Rattle.wire.specs.Road.{carriesCommand}
-use Rattle.wire.specs.Room.{filled}
 use Rattle.line.specs.Line.{A, S, textRoad, lineWith, lineOf, lineRead}
 use Rattle.frame.specs.declared.reading.Framed.the-variants.{Request}
 use Rattle.frame.specs.Frame.{frameRoad, shortFrame, bodyWith, framed, frameOf, addressIn, shaped, frameRead}
 use Rattle.roads.specs.declared.answering.Acknowledgement.{Acknowledgement}
 use Rattle.roads.specs.declared.answering.Acknowledgement.the-variants.{Okay}
 use Rattle.roads.specs.Acknowledgements.{textOf, functionOf, textRefusal, frameRefusal}
-use Rattle.roads.specs.Calls.{Answered, replyIn, answerText, answerFrame, composedLine, composedFrame}
-use Rattle.session.specs.Sessions.{Call, text, frame, add, remove, report, apply, composeLine, composeFrame, answerTo, after, run}
+use Rattle.roads.specs.Calls.{Said, said, Answered, replyIn, textOrder, textRows, answerText, frameOrder, frameRows, answerFrame, composeOrder, composeRows, composedLine, composedFrame}
+use Rattle.session.specs.Sessions.{Speaking, text, frame, composeLine, composeFrame, Quiet, add, remove, report, apply, Call, inRoom, quiet, answerTo, after, Done, run, Throughout}
+use Rattle.session.specs.Changes.{NotAdded, NotGiven, NotRewritten}
 
 -- ---- 1. "Any bytes, any zone number and any record may be handed to the card."
 
--- the order of a call's refusals, as document 01 gives it; apply's is that of a line without 1, 7 and 8
+-- the order of a call's refusals, as document 01 prints it
+abbrev pub spokenOrder : Speaking → List ℕ
+spokenOrder (text zone line) = textOrder
+spokenOrder (frame bytes) = frameOrder
+spokenOrder (composeLine command) = composeOrder
+spokenOrder (composeFrame address command) = composeOrder
+
+abbrev pub quietOrder : Quiet → List ℕ
+quietOrder (add zone address range) = addOrder
+quietOrder (remove zone) = removeOrder
+quietOrder (report zone state actual) = reportOrder
+quietOrder (apply zone command) = applyOrder
+
 abbrev pub order : Call → List ℕ
-order (text zone line room) = 1 ∷ 2 ∷ 3 ∷ 7 ∷ 8 ∷ 9 ∷ 10 ∷ []
-order (frame bytes room) = 1 ∷ 2 ∷ 4 ∷ 5 ∷ 6 ∷ 7 ∷ 8 ∷ 9 ∷ 10 ∷ []
-order (add zone address range) = 2 ∷ 3 ∷ 12 ∷ 9 ∷ 11 ∷ []
-order (remove zone) = 2 ∷ 3 ∷ []
-order (report zone state actual) = 2 ∷ 3 ∷ 9 ∷ []
-order (apply zone command) = 2 ∷ 3 ∷ 9 ∷ 10 ∷ []
-order (composeLine command room) = 1 ∷ 9 ∷ []
-order (composeFrame address command room) = 1 ∷ 9 ∷ []
+order (inRoom call room) = spokenOrder call
+order (quiet call) = quietOrder call
+
+-- its refusals, each a test with its number, as its definition has them
+abbrev pub spokenRefusals : Record → Speaking → List ℕ → List Row
+spokenRefusals r (text zone line) room = textRows r zone line room
+spokenRefusals r (frame bytes) room = frameRows r bytes room
+spokenRefusals r (composeLine command) room = composeRows (carriesCommand textRoad command) room
+spokenRefusals r (composeFrame address command) room = composeRows (addressInRange address && carriesCommand frameRoad command) room
+
+abbrev pub quietRefusals : Record → Quiet → List Row
+quietRefusals r (add zone address range) = addRows r zone address range
+quietRefusals r (remove zone) = zoneRows r zone removeAt
+quietRefusals r (report zone state actual) = zoneRows r zone (reportAt (zoneAt r zone) state actual)
+quietRefusals r (apply zone command) = zoneRows r zone (commandAt (zoneAt r zone) command)
+
+abbrev pub refusals : Record → Call → List Row
+refusals r (inRoom call room) = spokenRefusals r call room
+refusals r (quiet call) = quietRefusals r call
 
 abbrev pub among : ℕ → List ℕ → Bool
 among n l = some (eqb n) l
 
 -- the room that a call was lent
 abbrev pub lent : Call → List ℕ
-lent (text zone line room) = room
-lent (frame bytes room) = room
-lent (add zone address range) = []
-lent (remove zone) = []
-lent (report zone state actual) = []
-lent (apply zone command) = []
-lent (composeLine command room) = room
-lent (composeFrame address command room) = room
+lent (inRoom call room) = room
+lent (quiet call) = []
 
--- the acknowledgement that document 01 fixes for a refusal of that number
+-- the acknowledgement that document 01 fixes for a refusal of that number: on the two roads, "else none"
+abbrev pub fixedIn : Speaking → ℕ → List ℕ
+fixedIn (text zone line) number = textRefusal number
+fixedIn (frame bytes) number = frameRefusal (addressIn bytes) number
+fixedIn (composeLine command) number = []
+fixedIn (composeFrame address command) number = []
+
 abbrev pub fixed : Call → ℕ → List ℕ
-fixed (text zone line room) number = textRefusal number
-fixed (frame bytes room) number = frameRefusal (addressIn bytes) number
-fixed (add zone address range) number = []
-fixed (remove zone) number = []
-fixed (report zone state actual) number = []
-fixed (apply zone command) number = []
-fixed (composeLine command room) number = []
-fixed (composeFrame address command room) number = []
+fixed (inRoom call room) number = fixedIn call number
+fixed (quiet call) number = []
 
 pub record Answers (r : Record) (call : Call) : Type 0 where
   -- "Every call ends with one of the numbered answers of document 01."
   pub numbered : among (answerTo r call .said .number) (0 ∷ order call) ≡ true
-  -- "A refused call leaves the record as it was and writes nothing but the acknowledgement fixed there."
-  pub record-kept : (answerTo r call .said .number ≡ 0 → ⊥) → answerTo r call .after ≡ r
-  pub acknowledged : (answerTo r call .said .number ≡ 0 → ⊥) → answerTo r call .said .room ≡ filled (fixed call (answerTo r call .said .number)) (lent call)
-  pub reply-length : (answerTo r call .said .number ≡ 0 → ⊥) → answerTo r call .said .length ≡ length (fixed call (answerTo r call .said .number))
-  pub tells-nothing : (answerTo r call .said .number ≡ 0 → ⊥) → answerTo r call .said .values ≡ []
+  -- "Where several apply, the first in the call's order is given" (document 01): the first of its refusals, and these stand in the printed order
+  pub first-given : answerTo r call .said .number ≡ first (refusals r call)
+  pub in-order : InOrder (refusals r call) (order call)
+  -- "A refused call leaves the record as it was and writes nothing but the acknowledgement fixed there." It tells no figures, and the room keeps its contents behind the acknowledgement
+  pub refused : (Done r call → ⊥) → answerTo r call ≡ record { said = said (answerTo r call .said .number) [] (fixed call (answerTo r call .said .number)) (lent call); after = r }
 
--- answers, in proofs/Demand1.antt. That the number is the first in the order whose case applies: text-exactly and its like (docs/PROMISES.md)
+-- answers, in proofs/Demand1.antt. Exactly when each refusal applies: text-exactly and its like (docs/PROMISES.md)
 abbrev pub EveryCallAnswers : Type 0
 EveryCallAnswers = (r : Record) (call : Call) → Answers r call
 
--- the call does not add that zone
-abbrev pub AddsNot : ℕ → Call → Type 0
-AddsNot n (text zone line room) = Unit {0}
-AddsNot n (frame bytes room) = Unit {0}
-AddsNot n (add zone address range) = n ≡ zone → ⊥
-AddsNot n (remove zone) = Unit {0}
-AddsNot n (report zone state actual) = Unit {0}
-AddsNot n (apply zone command) = Unit {0}
-AddsNot n (composeLine command room) = Unit {0}
-AddsNot n (composeFrame address command room) = Unit {0}
-
-abbrev pub NoneAdds : ℕ → List Call → Type 0
-NoneAdds n [] = Unit {0}
-NoneAdds n (call ∷ calls) = AddsNot n call × NoneAdds n calls
-
--- "Until it is added again a removed zone is never written to": it stays the empty zone, through any session and from any record.
+-- "Until it is added again a removed zone is never written to": it stays the empty zone, through any session and from any record. A refused addition does not add it.
 -- stays-empty and stays-removed, in proofs/Demand1.antt
 abbrev pub StaysEmpty : Type 0
-StaysEmpty = (r : Record) (n : ℕ) (calls : List Call) → zoneAt r n ≡ emptyZone → NoneAdds n calls → zoneAt (run r calls) n ≡ emptyZone
+StaysEmpty = (r : Record) (n : ℕ) (calls : List Call) → zoneAt r n ≡ emptyZone → Throughout (NotAdded n) r calls → zoneAt (run r calls) n ≡ emptyZone
 
 abbrev pub StaysRemoved : Type 0
-StaysRemoved = (r : Record) (n : ℕ) (calls : List Call) → answerTo r (remove n) .said .number ≡ 0 → NoneAdds n calls → zoneAt (run (after r (remove n)) calls) n ≡ emptyZone
+StaysRemoved = (r : Record) (n : ℕ) (calls : List Call) → Done r (quiet (remove n)) → Throughout (NotAdded n) (after r (quiet (remove n))) calls
+    → zoneAt (run (after r (quiet (remove n))) calls) n ≡ emptyZone
 
 -- "an address that no present zone holds meets silence".
 pub record Silence (r : Record) (bytes room : List ℕ) : Type 0 where
   pub record-kept : answerFrame r bytes room .after ≡ r
   pub room-kept : answerFrame r bytes room .said .room ≡ room
   pub no-reply : answerFrame r bytes room .said .length ≡ 0
+  pub tells-nothing : answerFrame r bytes room .said .values ≡ []
   -- and where nothing comes before it in the order, the number is 5
   pub five : 32 ≤ length room → sound r ≡ true → shaped bytes ≡ true → answerFrame r bytes room .said .number ≡ 5
 
 -- meets-silence, in proofs/Demand1.antt
 abbrev pub MeetsSilence : Type 0
 MeetsSilence = (r : Record) (bytes room : List ℕ) → findOf r (addressIn bytes) ≡ Nowhere → Silence r bytes room
+
+-- the buyer's case: "fitters folded head 5 into head 4. The orders still pointed at head 5. The old card went on answering OK to its address".
+-- Once a zone has been removed, every order that still points at it is refused, in silence and to the end of any session: a line to its number with 3, until the zone is added again;
+-- a frame of document 01's shape to its old address with 5, until a zone is added with that address
+abbrev pub refusedSilently : ℕ → Record → List ℕ → Answered
+refusedSilently number r room = record { said = said number [] [] room; after = r }
+
+pub record Gone (r : Record) (n : ℕ) (calls : List Call) (room : List ℕ) : Type 0 where
+  pub by-line : Throughout (NotAdded n) (after r (quiet (remove n))) calls
+      → (line : List ℕ) → answerText (run (after r (quiet (remove n))) calls) n line room ≡ refusedSilently 3 (run (after r (quiet (remove n))) calls) room
+  pub by-frame : Throughout (NotGiven (zoneAt r n .address)) (after r (quiet (remove n))) calls
+      → (bytes : List ℕ) → shaped bytes ≡ true → addressIn bytes ≡ zoneAt r n .address
+      → answerFrame (run (after r (quiet (remove n))) calls) bytes room ≡ refusedSilently 5 (run (after r (quiet (remove n))) calls) room
+
+-- stays-gone, in proofs/Demand1.antt
+abbrev pub RemovedStaysGone : Type 0
+RemovedStaysGone = (r : Record) (n : ℕ) (calls : List Call) (room : List ℕ) → Done r (quiet (remove n)) → 32 ≤ length room → Gone r n calls room
 
 -- ---- 2. "Replies are those of the device description as document 01 condenses it."
 
@@ -124,17 +149,15 @@ pub record Present (r : Record) (n : ℕ) : Type 0 where
   pub below : n < 16
   pub present : zoneAt r n .present ≡ true
 
--- a read is done, alters nothing and tells the stored figures; its reply is their line, or their frame
-pub record Told (r : Record) (n : ℕ) (group : Group) (answered : Answered) : Type 0 where
-  pub number : answered .said .number ≡ 0
-  pub figures : answered .said .values ≡ figuresOf (zoneAt r n) group ∷ []
-  pub record-kept : answered .after ≡ r
+-- what is said of a done read: the figures, their reply, and behind it what the room kept
+abbrev pub tells : Figures → List ℕ → List ℕ → Said
+tells figures reply room = said 0 (figures ∷ []) reply room
 
+-- a read is done, alters nothing and tells the stored figures; its reply is their line, or their frame
 pub record Replies (r : Record) (n : ℕ) (group : Group) (room : List ℕ) : Type 0 where
-  pub told-by-line : Told r n group (answerText r n (lineOf (Read group)) room)
-  pub told-by-frame : Told r n group (answerFrame r (frameOf (zoneAt r n .address) (Read group)) room)
-  pub by-line : replyIn (answerText r n (lineOf (Read group)) room .said) ≡ lineWith A (figuresOf (zoneAt r n) group)
-  pub by-frame : replyIn (answerFrame r (frameOf (zoneAt r n .address) (Read group)) room .said) ≡ framed (bodyWith (zoneAt r n .address) 0x00 (figuresOf (zoneAt r n) group))
+  pub by-line : answerText r n (lineOf (Read group)) room ≡ record { said = tells (figuresOf (zoneAt r n) group) (lineWith A (figuresOf (zoneAt r n) group)) room; after = r }
+  pub by-frame : answerFrame r (frameOf (zoneAt r n .address) (Read group)) room
+      ≡ record { said = tells (figuresOf (zoneAt r n) group) (framed (bodyWith (zoneAt r n .address) 0x00 (figuresOf (zoneAt r n) group))) room; after = r }
   -- "A read reply with A made S, or with 00 made 69 and a fresh checksum, is the write command of its figures"
   pub line-writes : lineRead (set (lineWith A (figuresOf (zoneAt r n) group)) 0 S) ≡ Known (Write (figuresOf (zoneAt r n) group))
   pub frame-writes : frameRead (framed (set (bodyWith (zoneAt r n .address) 0x00 (figuresOf (zoneAt r n) group)) 1 0x69)) ≡ Request (zoneAt r n .address) (Known (Write (figuresOf (zoneAt r n) group)))
@@ -143,20 +166,33 @@ pub record Replies (r : Record) (n : ℕ) (group : Group) (room : List ℕ) : Ty
 abbrev pub ReadsAreReplied : Type 0
 ReadsAreReplied = (r : Record) (n : ℕ) (group : Group) (room : List ℕ) → Present r n → 32 ≤ length room → Replies r n group room
 
--- a write that is answered as done gets the OK: the whole room afterwards
+-- a write that is answered as done tells nothing and gets the OK, and behind it the room keeps its contents
 pub record WriteReply (r : Record) (n : ℕ) (figures : Figures) (room : List ℕ) : Type 0 where
-  pub by-line : carriesCommand textRoad (Write figures) ≡ true → answerText r n (lineOf (Write figures)) room .said .number ≡ 0 → answerText r n (lineOf (Write figures)) room .said .room ≡ filled (textOf Okay) room
-  pub by-frame : Present r n → carriesCommand frameRoad (Write figures) ≡ true → answerFrame r (frameOf (zoneAt r n .address) (Write figures)) room .said .number ≡ 0
-      → answerFrame r (frameOf (zoneAt r n .address) (Write figures)) room .said .room ≡ filled (shortFrame (zoneAt r n .address) 0x00) room
+  pub by-line : carriesCommand textRoad (Write figures) ≡ true → Done r (inRoom (text n (lineOf (Write figures))) room)
+      → answerText r n (lineOf (Write figures)) room .said ≡ said 0 [] (textOf Okay) room
+  pub by-frame : Present r n → carriesCommand frameRoad (Write figures) ≡ true → Done r (inRoom (frame (frameOf (zoneAt r n .address) (Write figures))) room)
+      → answerFrame r (frameOf (zoneAt r n .address) (Write figures)) room .said ≡ said 0 [] (shortFrame (zoneAt r n .address) 0x00) room
 
 -- write-replies, in proofs/Demand2.antt
 abbrev pub WritesAreReplied : Type 0
 WritesAreReplied = (r : Record) (n : ℕ) (figures : Figures) (room : List ℕ) → WriteReply r n figures room
 
+-- what is compared of two answers: "record, number and figures"
+pub record Same (a b : Answered) : Type 0 where
+  pub same-record : a .after ≡ b .after
+  pub same-number : a .said .number ≡ b .said .number
+  pub same-figures : a .said .values ≡ b .said .values
+
 -- "Every command that the card composes, as line or frame, it reads back as that command with those figures."
 pub record ReadsBack (address : ℕ) (command : Command) (room : List ℕ) : Type 0 where
   pub line-back : composedLine command room .number ≡ 0 → lineRead (replyIn (composedLine command room)) ≡ Known command
   pub frame-back : composedFrame address command room .number ≡ 0 → frameRead (replyIn (composedFrame address command room)) ≡ Request address (Known command)
+  -- and sent, with reply room of 32 bytes, it comes to what applying the command comes to: the line to any zone of any record, the frame to the present zone of a sound record that has its address
+  pub line-sent : composedLine command room .number ≡ 0
+      → (r : Record) (n : ℕ) (room′ : List ℕ) → 32 ≤ length room′ → Same (answerText r n (replyIn (composedLine command room)) room′) (answerTo r (quiet (apply n command)))
+  pub frame-sent : composedFrame address command room .number ≡ 0
+      → (r : Record) (n : ℕ) (room′ : List ℕ) → Present r n → zoneAt r n .address ≡ address → 32 ≤ length room′
+      → Same (answerFrame r (replyIn (composedFrame address command room)) room′) (answerTo r (quiet (apply n command)))
 
 -- reads-back, in proofs/Demand2.antt
 abbrev pub ComposedReadsBack : Type 0
@@ -189,11 +225,6 @@ abbrev pub BothCarried : Type 0
 BothCarried = (f : Figures) → bothCarry (Write f) ≡ every (λ e. ltb (e .number) (bothBound (e .column .kind))) (entriesOf f)
 
 -- "leaves the same record and gets the same answer number and figures, whether it comes as text or as a frame".
-pub record Same (a b : Answered) : Type 0 where
-  pub same-record : a .after ≡ b .after
-  pub same-number : a .said .number ≡ b .said .number
-  pub same-figures : a .said .values ≡ b .said .values
-
 -- same-by-both, in proofs/Demand3.antt
 abbrev pub SameByBoth : Type 0
 SameByBoth = (r : Record) (n : ℕ) (command : Command) (room room′ : List ℕ) → Present r n → bothCarry command ≡ true → 32 ≤ length room → 32 ≤ length room′
@@ -233,9 +264,9 @@ StaysSound = (r : Record) (calls : List Call) → sound r ≡ true → sound (ru
 -- the two ways to send a command to a zone present in the sound record at that step, with room of 32 bytes
 pub data OtherRoad (r : Record) : Call → Call → Type 0 where
   by-frame : (n : ℕ) (command : Command) (room room′ : List ℕ) → Present r n → bothCarry command ≡ true → 32 ≤ length room → 32 ≤ length room′
-      → OtherRoad r (text n (lineOf command) room) (frame (frameOf (zoneAt r n .address) command) room′)
+      → OtherRoad r (inRoom (text n (lineOf command)) room) (inRoom (frame (frameOf (zoneAt r n .address) command)) room′)
   by-text : (n : ℕ) (command : Command) (room room′ : List ℕ) → Present r n → bothCarry command ≡ true → 32 ≤ length room → 32 ≤ length room′
-      → OtherRoad r (frame (frameOf (zoneAt r n .address) command) room) (text n (lineOf command) room′)
+      → OtherRoad r (inRoom (frame (frameOf (zoneAt r n .address) command)) room) (inRoom (text n (lineOf command)) room′)
 
 -- two sessions that differ in roads alone, at any number of places. It is said of any kinds of calls: step is what a call does to the record, Other which calls go by the other road
 pub data Rerouted {C : Type 0} (step : Record → C → Record) (Other : Record → C → C → Type 0) : Record → List C → List C → Type 0 where
@@ -250,14 +281,24 @@ SameEnd = (r : Record) (xs ys : List Call) → Rerouted after OtherRoad r xs ys 
 
 -- ---- the card that stores the first command of a session and only acknowledges later ones
 
--- a write that is answered as done is what is stored, whatever came before: "every step starts from the record just handed back" (document 01)
-pub record Stored (before : Record) (n : ℕ) (figures : Figures) (room : List ℕ) : Type 0 where
-  pub applied : answerTo before (apply n (Write figures)) .said .number ≡ 0 → figuresOf (zoneAt (after before (apply n (Write figures))) n) (groupOf figures) ≡ figures
-  pub as-line : carriesCommand textRoad (Write figures) ≡ true → answerTo before (text n (lineOf (Write figures)) room) .said .number ≡ 0
-      → figuresOf (zoneAt (after before (text n (lineOf (Write figures)) room)) n) (groupOf figures) ≡ figures
-  pub as-frame : Present before n → carriesCommand frameRoad (Write figures) ≡ true → answerTo before (frame (frameOf (zoneAt before n .address) (Write figures)) room) .said .number ≡ 0
-      → figuresOf (zoneAt (after before (frame (frameOf (zoneAt before n .address) (Write figures)) room)) n) (groupOf figures) ≡ figures
+-- "A done write sets exactly the figures of its group in its zone" (document 01), and no other zone is touched
+pub record Stored (before : Record) (n : ℕ) (figures : Figures) (after : Record) : Type 0 where
+  pub sets : SetsFigures (zoneAt before n) figures (zoneAt after n)
+  pub others : (m : ℕ) → (m ≡ n → ⊥) → zoneAt after m ≡ zoneAt before m
 
--- every-write-is-stored, in proofs/Useless.antt
+-- whichever way it came, where it is answered as done
+pub record WriteStored (before : Record) (n : ℕ) (figures : Figures) (room : List ℕ) : Type 0 where
+  pub applied : Done before (quiet (apply n (Write figures))) → Stored before n figures (after before (quiet (apply n (Write figures))))
+  pub as-line : carriesCommand textRoad (Write figures) ≡ true → Done before (inRoom (text n (lineOf (Write figures))) room)
+      → Stored before n figures (after before (inRoom (text n (lineOf (Write figures))) room))
+  pub as-frame : Present before n → carriesCommand frameRoad (Write figures) ≡ true → Done before (inRoom (frame (frameOf (zoneAt before n .address) (Write figures))) room)
+      → Stored before n figures (after before (inRoom (frame (frameOf (zoneAt before n .address) (Write figures))) room))
+
+-- whatever came before: "every step starts from the record just handed back" (document 01). every-write-is-stored, in proofs/Useless.antt
 abbrev pub EveryWriteIsStored : Type 0
-EveryWriteIsStored = (r : Record) (calls : List Call) (n : ℕ) (figures : Figures) (room : List ℕ) → Stored (run r calls) n figures room
+EveryWriteIsStored = (r : Record) (calls : List Call) (n : ℕ) (figures : Figures) (room : List ℕ) → WriteStored (run r calls) n figures room
+
+-- and whatever comes after: the figures of a present zone's group stay until a done write of that group to it, or its done removal. stays-stored, in proofs/Useless.antt
+abbrev pub StaysStored : Type 0
+StaysStored = (r : Record) (n : ℕ) (group : Group) (calls : List Call) → zoneAt r n .present ≡ true → Throughout (NotRewritten n group) r calls
+    → figuresOf (zoneAt (run r calls) n) group ≡ figuresOf (zoneAt r n) group

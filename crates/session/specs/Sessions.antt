@@ -7,34 +7,48 @@ use Rattle.card.specs.Answers.{Result}
 use Rattle.card.specs.Calls.{addOf, removeOf, reportOf, applyOf}
 use Rattle.roads.specs.Calls.{Answered, said, answerText, answerFrame, composedLine, composedFrame}
 
+-- a call that is lent a room, and may reply in it
+pub data Speaking : Type 0 where
+  text : ℕ → List ℕ → Speaking
+  frame : List ℕ → Speaking
+  composeLine : Command → Speaking
+  composeFrame : ℕ → Command → Speaking
+
+-- a call that replies nothing
+pub data Quiet : Type 0 where
+  add : ℕ → ℕ → ℕ → Quiet
+  remove : ℕ → Quiet
+  report : ℕ → ℕ → ℕ → Quiet
+  apply : ℕ → Command → Quiet
+
 -- a call that document 01 names, with its arguments and, where it has one, the room that is lent
 pub data Call : Type 0 where
-  text : ℕ → List ℕ → List ℕ → Call
-  frame : List ℕ → List ℕ → Call
-  add : ℕ → ℕ → ℕ → Call
-  remove : ℕ → Call
-  report : ℕ → ℕ → ℕ → Call
-  apply : ℕ → Command → Call
-  composeLine : Command → List ℕ → Call
-  composeFrame : ℕ → Command → List ℕ → Call
-
--- a call without a reply
-abbrev pub silent : Result Record → Answered
-silent o = record { said = said (o .number) (o .values) [] []; after = o .after }
+  inRoom : Speaking → List ℕ → Call
+  quiet : Quiet → Call
 
 -- what the card answers: the definitions that the contracts of its functions promise, so what is said of them holds of the code
+abbrev pub answerIn : Record → Speaking → List ℕ → Answered
+answerIn r (text zone line) room = answerText r zone line room
+answerIn r (frame bytes) room = answerFrame r bytes room
+answerIn r (composeLine command) room = record { said = composedLine command room; after = r }
+answerIn r (composeFrame address command) room = record { said = composedFrame address command room; after = r }
+
+abbrev pub resultOf : Record → Quiet → Result Record
+resultOf r (add zone address range) = addOf r zone address range
+resultOf r (remove zone) = removeOf r zone
+resultOf r (report zone state actual) = reportOf r zone state actual
+resultOf r (apply zone command) = applyOf r zone command
+
 abbrev pub answerTo : Record → Call → Answered
-answerTo r (text zone line room) = answerText r zone line room
-answerTo r (frame bytes room) = answerFrame r bytes room
-answerTo r (add zone address range) = silent (addOf r zone address range)
-answerTo r (remove zone) = silent (removeOf r zone)
-answerTo r (report zone state actual) = silent (reportOf r zone state actual)
-answerTo r (apply zone command) = silent (applyOf r zone command)
-answerTo r (composeLine command room) = record { said = composedLine command room; after = r }
-answerTo r (composeFrame address command room) = record { said = composedFrame address command room; after = r }
+answerTo r (inRoom call room) = answerIn r call room
+answerTo r (quiet call) = record { said = said (resultOf r call .number) (resultOf r call .values) [] []; after = resultOf r call .after }
 
 abbrev pub after : Record → Call → Record
 after r call = answerTo r call .after
+
+-- the call is answered as done
+abbrev pub Done : Record → Call → Type 0
+Done r call = mathlib.Core.Path._≡_ (answerTo r call .said .number) 0
 
 -- "every step starts from the record just handed back": for any kinds of calls, and for the card's
 abbrev pub runBy : {C : Type 0} → (Record → C → Record) → Record → List C → Record
@@ -43,3 +57,8 @@ runBy step r (call ∷ calls) = runBy step (step r call) calls
 
 abbrev pub run : Record → List Call → Record
 run r calls = runBy after r calls
+
+-- what holds of each call of a session, at the record of its step
+abbrev pub Throughout : (Record → Call → Type 0) → Record → List Call → Type 0
+Throughout P r [] = Unit {0}
+Throughout P r (call ∷ calls) = P r call × Throughout P (after r call) calls

@@ -1,0 +1,143 @@
+-- Demand 1, of each call: one of the numbered answers, the first that applies in the printed order; a refusal leaves the record and writes the acknowledgement alone. Assumes nothing.
+use Prim.Native.Nat.{ℕ}
+use mathlib.Core.Path.{_≡_, refl, ap, _∙_}
+use mathlib.Core.Bool.{Bool, true, false, cond, _&&_, _||_}
+use mathlib.Core.List.{List, [], _∷_}
+use native.Mathlib.Omega.{arith}
+use lib.Dec.{eqb}
+use lib.ListN.{length, take}
+use borrow.Author.Tests.{eq-eqb, ne-eqb}
+use Rattle.zone.specs.declared.figures.Figures.{Figures}
+use Rattle.zone.specs.Zones.{addressInRange}
+use Rattle.zone.proofs.Tests.{or-true}
+use Rattle.card.specs.declared.records.Record.{Record}
+use Rattle.card.specs.Answers.{Result}
+use Rattle.card.specs.Refusals.{Row, first, settled}
+use Rattle.card.specs.Records.{zoneAt, withZone}
+use Rattle.card.specs.Calls.{addOf, removeOf, reportOf, applyOf}
+use Rattle.card.specs.Rules.{numbersIn, InOrder, Keeps}
+use Rattle.card.proofs.Kept.{add-order, remove-order, report-order, apply-order, add-keeps, remove-keeps, report-keeps, apply-keeps}
+use Rattle.wire.specs.Road.{carriesCommand}
+use Rattle.line.specs.Line.{textRoad, lineRead}
+use Rattle.frame.specs.Frame.{frameRoad, addressIn, bodyIn, bodyRead}
+use Rattle.roads.specs.Acknowledgements.{textRefusal, textReply, frameRefusal, frameReply}
+use Rattle.roads.specs.Calls.{Answered, said, parsedAt, textRows, inTextReply, answerText, zoneFound, holder, frameRows, inFrameReply, answerFrame, composeRows, composedLine, composedFrame}
+use Rattle.roads.proofs.Exactly.{text-order, frame-order, compose-order}
+use Rattle.session.specs.Sessions.{text, frame, composeLine, composeFrame, Quiet, add, remove, report, apply, Call, inRoom, quiet, resultOf, answerTo, Done}
+use Rattle.session.specs.Demands.{order, refusals, among, lent, fixed, EveryCallAnswers}
+
+-- ---- the first in the printed order
+
+-- one more number to be among
+among-more : (z t u : Bool) → (z || u) ≡ true → (z || (t || u)) ≡ true
+among-more true t u h = refl
+among-more false true u h = refl
+among-more false false u h = h
+
+-- refusals in the printed order give 0 or a number that is printed
+first-listed : (rows : List Row) (printed : List ℕ) → InOrder rows printed → among (first rows) (0 ∷ printed) ≡ true
+first-listed [] printed e = refl
+first-listed (row ∷ rows) [] e = absurd (let z : _≡_ {A = ℕ} 0 1 = cc in omega arith)
+first-listed (row ∷ rows) (n ∷ printed) e = by-test (row .test) (first-listed rows printed rest)
+  where
+    here : row .number ≡ n
+    here = cc
+
+    rest : InOrder rows printed
+    rest = cc
+
+    by-test : (t : Bool) → among (first rows) (0 ∷ printed) ≡ true → among (cond t (row .number) (first rows)) (0 ∷ n ∷ printed) ≡ true
+    by-test true h = rw (eq-eqb (row .number) n here) (or-true (eqb (row .number) 0))
+    by-test false h = among-more (eqb (first rows) 0) (eqb (first rows) n) (among (first rows) printed) h
+
+in-order : (r : Record) (call : Call) → InOrder (refusals r call) (order call)
+in-order r (inRoom (text n line) room) = text-order r n line room
+in-order r (inRoom (frame bytes) room) = frame-order r bytes room
+in-order r (inRoom (composeLine c) room) = compose-order (carriesCommand textRoad c) room
+in-order r (inRoom (composeFrame a c) room) = compose-order (addressInRange a && carriesCommand frameRoad c) room
+in-order r (quiet (add n a range)) = add-order r n a range
+in-order r (quiet (remove n)) = remove-order r n
+in-order r (quiet (report n state actual)) = report-order r n state actual
+in-order r (quiet (apply n c)) = apply-order r n c
+
+first-given : (r : Record) (call : Call) → answerTo r call .said .number ≡ first (refusals r call)
+unfolding answerText answerFrame addOf removeOf reportOf applyOf composedLine composedFrame
+first-given r (inRoom (text n line) room) = refl
+first-given r (inRoom (frame bytes) room) = refl
+first-given r (inRoom (composeLine c) room) = refl
+first-given r (inRoom (composeFrame a c) room) = refl
+first-given r (quiet (add n a range)) = refl
+first-given r (quiet (remove n)) = refl
+first-given r (quiet (report n state actual)) = refl
+first-given r (quiet (apply n c)) = refl
+
+-- ---- a refusal
+
+-- what a list of refusals comes to where one applies
+settled-refused : {A : Type 0} (given next : A) (rows : List Row) (values : List Figures) → (first rows ≡ 0 → ⊥) → settled given rows values next ≡ record { number = first rows; values = []; after = given }
+settled-refused given next rows values u = rw (ne-eqb (first rows) 0 u)
+
+-- the reply to a refused call is the acknowledgement that is fixed for it
+text-fixed : (number : ℕ) → (number ≡ 0 → ⊥) → textReply number [] ≡ textRefusal number
+unfolding textReply
+text-fixed number u = rw (ne-eqb number 0 u)
+
+frame-fixed : (address number : ℕ) → (number ≡ 0 → ⊥) → frameReply address number [] ≡ frameRefusal address number
+unfolding frameReply
+frame-fixed address number u = rw (ne-eqb number 0 u)
+
+abbrev refusedWith : Record → ℕ → List ℕ → List ℕ → Answered
+refusedWith r number reply room = record { said = said number [] reply room; after = r }
+
+text-refused : (r : Record) (n : ℕ) (line room : List ℕ) → (answerText r n line room .said .number ≡ 0 → ⊥)
+    → answerText r n line room ≡ refusedWith r (answerText r n line room .said .number) (textRefusal (answerText r n line room .said .number)) room
+unfolding answerText
+text-refused r n line room u =
+    let rows = textRows r n line room in
+    let j = parsedAt (zoneAt r n) (lineRead line) in
+    ap (λ (o : Result Record). inTextReply o room) (settled-refused r (withZone r n (j .after)) rows (j .values) u) ∙ ap (λ (reply : List ℕ). refusedWith r (first rows) reply room) (text-fixed (first rows) u)
+
+frame-refused : (r : Record) (bytes room : List ℕ) → (answerFrame r bytes room .said .number ≡ 0 → ⊥)
+    → answerFrame r bytes room ≡ refusedWith r (answerFrame r bytes room .said .number) (frameRefusal (addressIn bytes) (answerFrame r bytes room .said .number)) room
+unfolding answerFrame
+frame-refused r bytes room u =
+    let rows = frameRows r bytes room in
+    let n = zoneFound (holder r bytes) in
+    let j = parsedAt (zoneAt r n) (bodyRead (bodyIn bytes)) in
+    ap (λ (o : Result Record). inFrameReply (addressIn bytes) o room) (settled-refused r (withZone r n (j .after)) rows (j .values) u)
+    ∙ ap (λ (reply : List ℕ). refusedWith r (first rows) reply room) (frame-fixed (addressIn bytes) (first rows) u)
+
+-- a call that replies nothing, by what it keeps
+kept : {n : ℕ} (r : Record) (o : Result Record) → Keeps r n o → (o .number ≡ 0 → ⊥) → record { said = said (o .number) (o .values) [] []; after = o .after } ≡ refusedWith r (o .number) [] []
+kept r o k u = rw (k .refusal u .0, k .refusal u .1)
+
+refused : (r : Record) (call : Call) → (Done r call → ⊥) → answerTo r call ≡ refusedWith r (answerTo r call .said .number) (fixed call (answerTo r call .said .number)) (lent call)
+unfolding composedLine composedFrame
+refused r (inRoom (text n line) room) u = text-refused r n line room u
+refused r (inRoom (frame bytes) room) u = frame-refused r bytes room u
+refused r (inRoom (composeLine c) room) u = rw (ne-eqb (first (composeRows (carriesCommand textRoad c) room)) 0 u)
+refused r (inRoom (composeFrame a c) room) u = rw (ne-eqb (first (composeRows (addressInRange a && carriesCommand frameRoad c) room)) 0 u)
+refused r (quiet (add n a range)) u = kept r (addOf r n a range) (add-keeps r n a range) u
+refused r (quiet (remove n)) u = kept r (removeOf r n) (remove-keeps r n) u
+refused r (quiet (report n state actual)) u = kept r (reportOf r n state actual) (report-keeps r n state actual) u
+refused r (quiet (apply n c)) u = kept r (applyOf r n c) (apply-keeps r n c) u
+
+pub answers : EveryCallAnswers
+answers r call = record {
+  numbered = rw (first-given r call) (first-listed (refusals r call) (order call) (in-order r call));
+  first-given = first-given r call;
+  in-order = in-order r call;
+  refused = refused r call;
+}
+
+-- in short: a call that is not done leaves the record
+pub record-kept : (r : Record) (call : Call) → (Done r call → ⊥) → answerTo r call .after ≡ r
+record-kept r call u = ap (λ (a : Answered). a .after) (refused r call u)
+
+-- by whether a call is done
+pub by-done : (r : Record) (call : Call) {P : Type 0} → (Done r call → P) → ((Done r call → ⊥) → P) → P
+by-done r call {P} f g = by-number (eqb (answerTo r call .said .number) 0) refl
+  where
+    by-number : (t : Bool) → eqb (answerTo r call .said .number) 0 ≡ t → P
+    by-number true e = f (borrow.Author.Tests.eqb-true _ 0 e)
+    by-number false e = g (borrow.Author.Tests.eqb-false _ 0 e)

@@ -1,0 +1,62 @@
+-- What a call does to a zone: nothing, or exactly what document 01 has a done write, report, removal or addition set. The demands on whole sessions are said in these words.
+-- "P → ⊥" says that P does not hold, "P × Q" that both do.
+use Prim.Native.Nat.{ℕ}
+use mathlib.Core.Path.{_≡_}
+use mathlib.Core.Bool.{true, false}
+use mathlib.Core.List.{List}
+use Rattle.zone.specs.declared.figures.Group.{Group}
+use Rattle.zone.specs.declared.figures.Figures.{Figures}
+use Rattle.zone.specs.declared.figures.Command.the-variants.{Write}
+use Rattle.zone.specs.declared.zones.Zone.{Zone}
+use Rattle.zone.specs.Figures.{groupOf}
+use Rattle.zone.specs.Zones.{newZone, emptyZone, stateNumbered}
+use Rattle.zone.specs.Rules.{SetsFigures, SetsStatus}
+use Rattle.card.specs.declared.records.Record.{Record}
+use Rattle.card.specs.Records.{zoneAt}
+use Rattle.wire.specs.declared.Parsed.the-variants.{Known}
+use Rattle.line.specs.Line.{lineRead}
+use Rattle.frame.specs.declared.reading.Framed.the-variants.{Request}
+use Rattle.frame.specs.Frame.{frameRead}
+use Rattle.session.specs.Sessions.{text, frame, add, remove, report, apply, Call, inRoom, quiet, Done, after}
+
+-- the call is a done write of those figures to zone n, applied or by either road
+pub data Writes (n : ℕ) (figures : Figures) (r : Record) : Call → Type 0 where
+  by-apply : Done r (quiet (apply n (Write figures))) → Writes n figures r (quiet (apply n (Write figures)))
+  by-line : (line room : List ℕ) → lineRead line ≡ Known (Write figures) → Done r (inRoom (text n line) room) → Writes n figures r (inRoom (text n line) room)
+  by-frame : (bytes room : List ℕ) → frameRead bytes ≡ Request (zoneAt r n .address) (Known (Write figures)) → Done r (inRoom (frame bytes) room) → Writes n figures r (inRoom (frame bytes) room)
+
+-- a done report of that state and actual value to zone n, a done removal of it, a done addition of it with that address and temperature range
+pub data Reports (n state actual : ℕ) (r : Record) : Call → Type 0 where
+  reported : Done r (quiet (report n state actual)) → Reports n state actual r (quiet (report n state actual))
+
+pub data Removes (n : ℕ) (r : Record) : Call → Type 0 where
+  removed : Done r (quiet (remove n)) → Removes n r (quiet (remove n))
+
+pub data Adds (n address range : ℕ) (r : Record) : Call → Type 0 where
+  added : Done r (quiet (add n address range)) → Adds n address range r (quiet (add n address range))
+
+-- what becomes of zone n: it stays as it is or, where it is present, gets what is written or reported, or is emptied; where it is absent, it may become a new zone
+pub data Becomes (r : Record) (n : ℕ) (call : Call) (z : Zone) : Type 0 where
+  stays : z ≡ zoneAt r n → Becomes r n call z
+  written : (figures : Figures) → Writes n figures r call → zoneAt r n .present ≡ true → SetsFigures (zoneAt r n) figures z → Becomes r n call z
+  was-reported : (state actual : ℕ) → Reports n state actual r call → zoneAt r n .present ≡ true → SetsStatus (zoneAt r n) (record { state = stateNumbered state; actual = actual }) z → Becomes r n call z
+  was-removed : Removes n r call → zoneAt r n .present ≡ true → z ≡ emptyZone → Becomes r n call z
+  was-added : (address range : ℕ) → Adds n address range r call → zoneAt r n .present ≡ false → z ≡ newZone address range → Becomes r n call z
+
+-- becomes, in proofs/Changes.antt: of every call, whatever it is and whatever it is answered, and of every zone
+abbrev pub EveryZoneBecomes : Type 0
+EveryZoneBecomes = (r : Record) (call : Call) (n : ℕ) → Becomes r n call (zoneAt (after r call) n)
+
+-- ---- what a session is to leave alone
+
+-- zone n is not added; no zone is added with that address. A refused addition adds nothing
+abbrev pub NotAdded : ℕ → Record → Call → Type 0
+NotAdded n r call = (address range : ℕ) → Adds n address range r call → ⊥
+
+abbrev pub NotGiven : ℕ → Record → Call → Type 0
+NotGiven address r call = (n range : ℕ) → Adds n address range r call → ⊥
+
+-- no figures of that group are written to zone n, and it is not removed
+pub record NotRewritten (n : ℕ) (group : Group) (r : Record) (call : Call) : Type 0 where
+  pub not-written : (figures : Figures) → groupOf figures ≡ group → Writes n figures r call → ⊥
+  pub not-removed : Removes n r call → ⊥
