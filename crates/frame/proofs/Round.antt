@@ -10,7 +10,6 @@ use lib.Seq.{take-append-seam, getD-append-add, length-take-le, drop-cons, getD-
 use lib.Dec.{ltb, leb, eqb}
 use borrow.Author.Tests.{ltb-true, ltb-false, eqb-true, leb-true}
 use Rattle.zone.specs.declared.figures.Group.{Group}
-use Rattle.zone.specs.declared.figures.Group.the-variants.{Ahue, Hzbg, Rrue, Solw}
 use Rattle.zone.specs.declared.figures.Command.{Command}
 use Rattle.zone.specs.declared.figures.Command.the-variants.{Read, Write}
 use Rattle.zone.specs.Table.{Kind, bytes, index, everyGroup, everyForm}
@@ -26,6 +25,7 @@ use Rattle.wire.proofs.Row.{Lawful, Stands, write-reads, command-only}
 use Rattle.frame.specs.declared.reading.Framed.the-variants.{Request}
 use Rattle.frame.specs.Sum.{checksumOf}
 use Rattle.frame.specs.Frame.{bytesOf, numberAt, frameRoad, bodyOf, framed, frameOf, shaped, bodyIn, addressIn, checksumRight, firstIndexed, groupIndexed, indexedRead, bodyRead, frameRead}
+use Rattle.frame.proofs.Requests.{index-again}
 use Rattle.frame.proofs.Shape.{whole}
 use Rattle.frame.proofs.ByteRule.{bytes-length, number-reads, Bytes, number-only}
 
@@ -53,14 +53,6 @@ lawful = record {
 }
 
 -- ---- there
-
--- "The index byte alone names the group"
-pub index-again : (g : Group) → groupIndexed (index g) ≡ Is g
-unfolding groupIndexed
-index-again Ahue = refl
-index-again Hzbg = refl
-index-again Rrue = refl
-index-again Solw = refl
 
 body-reads : (x : ℕ) (c : Command) → carriesCommand frameRoad c ≡ true → bodyRead (bodyOf x c) ≡ Known c
 unfolding bodyRead carriesCommand

@@ -1,7 +1,6 @@
 // A frame read as a command to an address.
 use crate::sums::checksum;
 use crate::sums::wide;
-use wire::Named;
 use wire::Parsed;
 use zone::Command;
 use zone::DeadlineFigures;
@@ -14,27 +13,14 @@ use zone::WindowFigures;
 ghost use mathlib.Core.Path.{_≡_};
 ghost use Prim.Native.Nat.{_+_, _≤_, _<_};
 ghost use lib.ListN.{length};
-ghost use Rattle.wire.specs.Road.{writeRead, formsOf};
-ghost use Rattle.frame.specs.Frame.{frameRoad, numberAt, groupIndexed, bodyRead, frameRead};
+ghost use Rattle.wire.specs.Road.{writeRead, formsOf, commandRead};
+ghost use Rattle.frame.specs.Frame.{frameRoad, numberAt, writing, bodyRead, frameRead};
 
 // No frame; a frame whose checksum differs, with its address; a request, with its address.
 pub enum Framed {
     NoFrame,
     Checksum(u8),
     Request(u8, Parsed),
-}
-
-// The index byte alone names the group.
-fn indexed(index: u8) -> Named
-    ensures { λ r. ⌜ r ≡ groupIndexed index ⌝ }
-{
-    match index {
-        0x0B => Named::Is(Group::Ahue),
-        0x15 => Named::Is(Group::Rrue),
-        0x35 => Named::Is(Group::Solw),
-        0x70 => Named::Is(Group::Hzbg),
-        _ => Named::NoGroup,
-    }
 }
 
 fn one(body: &[u8], at: usize) -> u32
@@ -51,84 +37,115 @@ fn two(body: &[u8], at: usize) -> u32
     wide(body[at]) + 256 * wide(body[at + 1])
 }
 
-// A write: the body's length says which of the group's forms it is.
-fn write(group: Group, body: &[u8]) -> Parsed
-    ensures { λ r. ⌜ r ≡ writeRead frameRoad (formsOf group) (now (body .entry)) ⌝ }
+// The body of a write of each group: its length says which of the group's forms it is.
+fn ahue(body: &[u8]) -> Parsed
+    ensures { λ r. ⌜ r ≡ writeRead frameRoad (formsOf Group.Ahue) (now (body .entry)) ⌝ }
 {
-    match group {
-        Group::Ahue => {
-            if body.len() == 8 {
-                let f = DeadlineFigures {
-                    flag: one(body, 3),
-                    lower: one(body, 4),
-                    upper: one(body, 5),
-                    time: two(body, 6),
-                };
-                return Parsed::Known(Command::Write(Figures::AhueDeadline(f)));
-            }
-            if body.len() == 10 {
-                let f = WindowFigures {
-                    flag: one(body, 3),
-                    lower: one(body, 4),
-                    upper: one(body, 5),
-                    begin: two(body, 6),
-                    end: two(body, 8),
-                };
-                return Parsed::Known(Command::Write(Figures::AhueWindow(f)));
-            }
-            Parsed::Syntax
-        }
-        Group::Hzbg => {
-            if body.len() == 5 {
-                let f = LimitFigures { time: two(body, 3) };
-                return Parsed::Known(Command::Write(Figures::HzbgLimit(f)));
-            }
-            Parsed::Syntax
-        }
-        Group::Rrue => {
-            if body.len() == 6 {
-                let f = ReferenceFigures {
-                    flag: one(body, 3),
-                    lower: one(body, 4),
-                    upper: one(body, 5),
-                };
-                return Parsed::Known(Command::Write(Figures::RrueReference(f)));
-            }
-            Parsed::Syntax
-        }
-        Group::Solw => {
-            if body.len() == 5 {
-                let f = SetpointFigures {
-                    setpoint: two(body, 3),
-                };
-                return Parsed::Known(Command::Write(Figures::SolwSetpoint(f)));
-            }
-            Parsed::Syntax
-        }
+    if body.len() == 8 {
+        let f = DeadlineFigures {
+            flag: one(body, 3),
+            lower: one(body, 4),
+            upper: one(body, 5),
+            time: two(body, 6),
+        };
+        return Parsed::Known(Command::Write(Figures::AhueDeadline(f)));
     }
+    if body.len() == 10 {
+        let f = WindowFigures {
+            flag: one(body, 3),
+            lower: one(body, 4),
+            upper: one(body, 5),
+            begin: two(body, 6),
+            end: two(body, 8),
+        };
+        return Parsed::Known(Command::Write(Figures::AhueWindow(f)));
+    }
+    Parsed::Syntax
 }
 
-// The command of the bytes that L counts.
+fn hzbg(body: &[u8]) -> Parsed
+    ensures { λ r. ⌜ r ≡ writeRead frameRoad (formsOf Group.Hzbg) (now (body .entry)) ⌝ }
+{
+    if body.len() == 5 {
+        let f = LimitFigures { time: two(body, 3) };
+        return Parsed::Known(Command::Write(Figures::HzbgLimit(f)));
+    }
+    Parsed::Syntax
+}
+
+fn rrue(body: &[u8]) -> Parsed
+    ensures { λ r. ⌜ r ≡ writeRead frameRoad (formsOf Group.Rrue) (now (body .entry)) ⌝ }
+{
+    if body.len() == 6 {
+        let f = ReferenceFigures {
+            flag: one(body, 3),
+            lower: one(body, 4),
+            upper: one(body, 5),
+        };
+        return Parsed::Known(Command::Write(Figures::RrueReference(f)));
+    }
+    Parsed::Syntax
+}
+
+fn solw(body: &[u8]) -> Parsed
+    ensures { λ r. ⌜ r ≡ writeRead frameRoad (formsOf Group.Solw) (now (body .entry)) ⌝ }
+{
+    if body.len() == 5 {
+        let f = SetpointFigures {
+            setpoint: two(body, 3),
+        };
+        return Parsed::Known(Command::Write(Figures::SolwSetpoint(f)));
+    }
+    Parsed::Syntax
+}
+
+// What is no write: a read is three bytes long, and any function but 89 and 69 is unknown.
+fn no_write(function: u8, group: Group, body: &[u8]) -> Parsed
+    requires { ⌜ (function ≡ writing → ⊥) ⌝ }
+    ensures { λ r. ⌜ r ≡ commandRead frameRoad function group (now (body .entry)) ⌝ }
+{
+    if function != 0x89 {
+        return Parsed::Unknown;
+    }
+    if body.len() == 3 {
+        return Parsed::Known(Command::Read(group));
+    }
+    Parsed::Syntax
+}
+
+// The command of the bytes that L counts. The index byte alone names the group: its arm chooses the lengths
+// and the places by which a write is read.
 fn request(body: &[u8]) -> Parsed
     requires { ⌜ 3 ≤ length (now body) ⌝ }
     ensures { λ r. ⌜ r ≡ bodyRead (now (body .entry)) ⌝ }
 {
-    let group = match indexed(body[2]) {
-        Named::Is(g) => g,
-        Named::NoGroup => {
-            return Parsed::Unknown;
-        }
-    };
     let function = body[1];
-    match function {
-        0x89 => {
-            if body.len() == 3 {
-                Parsed::Known(Command::Read(group))
-            } else {
-                Parsed::Syntax
+    let index = body[2];
+    match index {
+        0x0B => {
+            if function == 0x69 {
+                return ahue(body);
             }
+            no_write(function, Group::Ahue, body)
         }
-        0x69 => write(group, body),
+        0x15 => {
+            if function == 0x69 {
+                return rrue(body);
+            }
+            no_write(function, Group::Rrue, body)
+        }
+        0x35 => {
+            if function == 0x69 {
+                return solw(body);
+            }
+            no_write(function, Group::Solw, body)
+        }
+        0x70 => {
+            if function == 0x69 {
+                return hzbg(body);
+            }
+            no_write(function, Group::Hzbg, body)
+        }
         _ => Parsed::Unknown,
     }
 }

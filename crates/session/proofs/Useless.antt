@@ -24,7 +24,7 @@ use Rattle.wire.specs.Road.{carriesCommand}
 use Rattle.line.specs.Line.{textRoad, lineOf}
 use Rattle.wire.specs.declared.Named.the-variants.{Is}
 use Rattle.frame.specs.Frame.{frameRoad, frameOf, groupIndexed}
-use Rattle.frame.proofs.Round.{index-again}
+use Rattle.frame.proofs.Requests.{index-again}
 use Rattle.roads.specs.Calls.{answerText, answerFrame}
 use Rattle.session.specs.Sessions.{Call, after, run}
 use Rattle.session.specs.Changes.{Becomes, stays, written, was-reported, was-removed, was-added, NotRewritten}
