@@ -34,7 +34,9 @@ fn two(body: &[u8], at: usize) -> u32
     requires { ⌜ at + 1 < length (now body) ⌝ }
     ensures { λ r. ⌜ r ≡ numberAt 2 (now (body .entry)) at ⌝ }
 {
-    wide(body[at]) + 256 * wide(body[at + 1])
+    let low = wide(body[at]);
+    let high = wide(body[at + 1]);
+    low + 256 * high
 }
 
 // The body of a write of each group: its length says which of the group's forms it is.

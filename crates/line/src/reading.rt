@@ -14,6 +14,7 @@ use zone::WindowFigures;
 ghost use mathlib.Core.Path.{_≡_};
 ghost use Rattle.zone.specs.Table.{Form};
 ghost use Rattle.wire.specs.Road.{formRead, writeRead, formsOf};
+ghost use Rattle.line.specs.Steps.{watchedOf};
 ghost use Rattle.line.specs.Line.{textRoad, same, groupNamed, lineRead};
 
 // Two byte strings are the same.
@@ -51,16 +52,31 @@ fn named(part: &[u8]) -> Named
     Named::NoGroup
 }
 
+// Flag, lower and upper limit, with which three of the rows begin; or that one of them is no figure.
+enum Limits {
+    Are(u32, u32, u32),
+    Bad,
+}
+
+fn watched(line: &[u8]) -> Limits
+    ensures { λ r. ⌜ r ≡ watchedOf (now (line .entry)) ⌝ }
+{
+    let Figure::Value(flag) = figure(line, 5, 1) else {
+        return Limits::Bad;
+    };
+    let Figure::Value(lower) = figure(line, 7, 3) else {
+        return Limits::Bad;
+    };
+    let Figure::Value(upper) = figure(line, 11, 3) else {
+        return Limits::Bad;
+    };
+    Limits::Are(flag, lower, upper)
+}
+
 fn deadline(line: &[u8]) -> Parsed
     ensures { λ r. ⌜ r ≡ formRead textRoad Form.deadline (now (line .entry)) ⌝ }
 {
-    let Figure::Value(flag) = figure(line, 5, 1) else {
-        return Parsed::Syntax;
-    };
-    let Figure::Value(lower) = figure(line, 7, 3) else {
-        return Parsed::Syntax;
-    };
-    let Figure::Value(upper) = figure(line, 11, 3) else {
+    let Limits::Are(flag, lower, upper) = watched(line) else {
         return Parsed::Syntax;
     };
     let Figure::Value(time) = figure(line, 15, 3) else {
@@ -77,13 +93,7 @@ fn deadline(line: &[u8]) -> Parsed
 fn window(line: &[u8]) -> Parsed
     ensures { λ r. ⌜ r ≡ formRead textRoad Form.window (now (line .entry)) ⌝ }
 {
-    let Figure::Value(flag) = figure(line, 5, 1) else {
-        return Parsed::Syntax;
-    };
-    let Figure::Value(lower) = figure(line, 7, 3) else {
-        return Parsed::Syntax;
-    };
-    let Figure::Value(upper) = figure(line, 11, 3) else {
+    let Limits::Are(flag, lower, upper) = watched(line) else {
         return Parsed::Syntax;
     };
     let Figure::Value(begin) = figure(line, 15, 3) else {
@@ -113,13 +123,7 @@ fn heating_limit(line: &[u8]) -> Parsed
 fn reference(line: &[u8]) -> Parsed
     ensures { λ r. ⌜ r ≡ formRead textRoad Form.rrue (now (line .entry)) ⌝ }
 {
-    let Figure::Value(flag) = figure(line, 5, 1) else {
-        return Parsed::Syntax;
-    };
-    let Figure::Value(lower) = figure(line, 7, 3) else {
-        return Parsed::Syntax;
-    };
-    let Figure::Value(upper) = figure(line, 11, 3) else {
+    let Limits::Are(flag, lower, upper) = watched(line) else {
         return Parsed::Syntax;
     };
     Parsed::Known(Command::Write(Figures::RrueReference(ReferenceFigures {

@@ -43,11 +43,11 @@ pub fn text(r: Record, zone: usize, line: &[u8], room: &mut [u8]) -> Replied
         };
     }
     let outcome = r.ask(zone, asked(line::read(line)));
-    let answer = outcome.answer;
+    let answered = outcome.answer;
     let after = outcome.after;
-    let length = put_text(answer, room);
+    let length = put_text(answered, room);
     Replied {
-        answer: answer,
+        answer: answered,
         length: length,
         after: after,
     }

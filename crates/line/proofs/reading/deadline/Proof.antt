@@ -1,29 +1,27 @@
--- Each figure is read in the row's order; the first that is none makes a syntax error, and all of them the write.
+-- The figures are read in the row's order; the first that is none makes a syntax error, and all of them the write.
 use mathlib.Core.Path.{sym, _∙_}
 use Rattle.wire.specs.Road.{formRead}
+use Rattle.line.proofs.Three.{watched-none, watched-all}
 use borrow.Author.Needs.{needs}
 use Rattle.line.proofs.reading.deadline.Statement.{statement}
 use Rattle.line.proofs.reading.deadline.Tie as tie
 
 returns : tie.Need-returns
 unfolding formRead
-returns c = rw (sym (c .before .before .figure .ensures) ∙ c .enum-told .given .1)
+returns c = rw (watched-none _ (sym (c .before .before .watched .ensures) ∙ c .enum-told .given .1))
 
 returns-2 : tie.Need-returns-2
 unfolding formRead
-returns-2 c = rw (sym (c .before .before .before .before .before .before .figure .ensures) ∙ c .before .before .before .before .flag .given .1, sym (c .before .before .figure2 .ensures) ∙ c .enum-told2 .given .1)
+returns-2 c =
+    let p = c .before .before .before .before in
+    rw (watched-all _ (sym (p .before .before .watched .ensures) ∙ p .flag .given .1), sym (c .before .before .figure .ensures) ∙ c .enum-told2 .given .1)
 
 returns-3 : tie.Need-returns-3
 unfolding formRead
-returns-3 c = rw (sym (c .before .before .before .before .before .before .before .before .before .before .figure .ensures) ∙ c .before .before .before .before .before .before .before .before .flag .given .1, sym (c .before .before .before .before .before .before .figure2 .ensures) ∙ c .before .before .before .before .lower .given .1, sym (c .before .before .figure3 .ensures) ∙ c .enum-told3 .given .1)
-
-returns-4 : tie.Need-returns-4
-unfolding formRead
-returns-4 c = rw (sym (c .before .before .before .before .before .before .before .before .before .before .before .before .before .before .figure .ensures) ∙ c .before .before .before .before .before .before .before .before .before .before .before .before .flag .given .1, sym (c .before .before .before .before .before .before .before .before .before .before .figure2 .ensures) ∙ c .before .before .before .before .before .before .before .before .lower .given .1, sym (c .before .before .before .before .before .before .figure3 .ensures) ∙ c .before .before .before .before .upper .given .1, sym (c .before .before .figure4 .ensures) ∙ c .enum-told4 .given .1)
-
-returns-5 : tie.Need-returns-5
-unfolding formRead
-returns-5 c = rw (sym (c .before .before .before .before .before .before .before .before .before .before .before .before .before .before .before .figure .ensures) ∙ c .before .before .before .before .before .before .before .before .before .before .before .before .before .flag .given .1, sym (c .before .before .before .before .before .before .before .before .before .before .before .figure2 .ensures) ∙ c .before .before .before .before .before .before .before .before .before .lower .given .1, sym (c .before .before .before .before .before .before .before .figure3 .ensures) ∙ c .before .before .before .before .before .upper .given .1, sym (c .before .before .before .figure4 .ensures) ∙ c .before .time .given .1)
+returns-3 c =
+    let q = c .before in
+    let p = q .before .before .before .before in
+    rw (watched-all _ (sym (p .before .before .watched .ensures) ∙ p .flag .given .1), sym (q .before .before .figure .ensures) ∙ q .time .given .1)
 
 pub deadline-spec : {M : Type 1} → statement M
 deadline-spec =
@@ -37,12 +35,4 @@ deadline-spec =
     (λ c. search needs)
     (λ c. search needs)
     returns-2
-    (λ c κs. search needs)
-    (λ c. search needs)
-    (λ c. search needs)
-    returns-3
-    (λ c κs. search needs)
-    (λ c. search needs)
-    (λ c. search needs)
-    returns-4
-    returns-5)
+    returns-3)
