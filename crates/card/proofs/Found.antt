@@ -16,7 +16,7 @@ use Rattle.card.specs.declared.records.Found.{Found}
 use Rattle.card.specs.declared.records.Found.the-variants.{At, Nowhere}
 use Rattle.card.specs.Records.{zoneAt, heldIn, differ, sound, noZone, findFrom, findOf}
 use Rattle.card.specs.Rules.{FirstToHold}
-use Rattle.card.proofs.Stored.{differ-parts, sound-parts}
+use Rattle.card.proofs.Storing.{differ-parts, sound-parts}
 
 -- what is found from zone k on is zone k + i, where i is the first of the list to hold the address
 record FoundFrom (k : ℕ) (zs : List Zone) (a n : ℕ) : Type 0 where

@@ -22,8 +22,8 @@ use Rattle.card.specs.Records.{zoneAt, withZone, sound}
 use Rattle.card.specs.Calls.{addRows, addOf, Judgement, zoneRows, removeAt, removeOf, reportAt, reportOf, commandAt, applyOf}
 use Rattle.card.specs.Rules.{Keeps, ExactlyWhen, rowAt, numbersIn, addOrder, removeOrder, reportOrder, applyOrder, InOrder}
 use Rattle.card.proofs.Rows.{apart, exactly}
-use Rattle.card.proofs.Steps.{same-zone}
-use Rattle.card.proofs.Stored.{zone-sound, stored-new, stored-same}
+use Rattle.card.proofs.Inner.{same-zone}
+use Rattle.card.proofs.Storing.{zone-sound, stored-new, stored-same}
 
 -- ---- once, for every call
 

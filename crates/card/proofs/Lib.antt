@@ -1,7 +1,7 @@
 pub mod Scans
-pub mod Steps
+pub mod Inner
 pub mod Rows
-pub mod Stored
+pub mod Storing
 pub mod Kept
 pub mod Sets
 pub mod Found

@@ -21,8 +21,8 @@ use Rattle.card.specs.Refusals.{Row, first, settled}
 use Rattle.card.specs.Records.{zoneAt, withZone, heldIn, sound}
 use Rattle.card.specs.Calls.{addRows, addOf, Judgement, zoneRows, atZone, removeAt, removeOf, reportAt, reportOf, commandAt, applyOf}
 use Rattle.card.specs.Rules.{Frees}
-use Rattle.card.proofs.Steps.{same-zone}
-use Rattle.card.proofs.Stored.{sound-parts, zone-sound, freed}
+use Rattle.card.proofs.Inner.{same-zone}
+use Rattle.card.proofs.Storing.{sound-parts, zone-sound, freed}
 use Rattle.card.proofs.Kept.{AtZone, done-at-zone, remove-apart, report-apart, apply-apart, remove-keeps, apply-keeps}
 use Rattle.card.proofs.Rows.{exactly}
 

@@ -33,7 +33,9 @@ abbrev pub addRows : Record → ℕ → ℕ → ℕ → List Row
 addRows r n address range = (not (sound r) gives 2) ∷ (leb 16 n gives 3) ∷ addAt (zoneAt r n) address range (heldIn (r .zones) address) .rows
 
 unfoldable pub addOf : Record → ℕ → ℕ → ℕ → Result Record
-addOf r n address range = settled r (addRows r n address range) [] (withZone r n (newZone address range))
+addOf r n address range =
+    let j = addAt (zoneAt r n) address range (heldIn (r .zones) address) in
+    settled r (addRows r n address range) (j .values) (withZone r n (j .after))
 
 -- ---- calls at a present zone: 2, 3, and then what the zone itself decides
 

@@ -5,4 +5,4 @@ pub mod Refusals
 pub mod Records
 pub mod Calls
 pub mod Rules
-pub mod Steps
+pub mod Inner

@@ -11,12 +11,12 @@ use zone::address_in_range;
 use zone::range_known;
 ghost use mathlib.Core.Path.{_≡_};
 ghost use Rattle.card.specs.Calls.{addAt, reportAt, writeAt, commandAt};
-ghost use Rattle.card.specs.Steps as steps;
+ghost use Rattle.card.specs.Inner as steps;
 
 // What a road brings to a zone: a command, or the refusal that its bytes met with.
 pub enum Asked {
-    Known(Command),
-    Refused(Refusal),
+    Sent(Command),
+    Failed(Refusal),
 }
 
 // What a zone decides: it refuses, or it tells its figures, or it is altered.
@@ -106,8 +106,8 @@ pub fn heard(z: Zone, asked: Asked) -> Verdict
     ensures { λ r. ⌜ steps.verdictSeen z r ≡ steps.judged z (steps.askAt z asked) ⌝ }
 {
     match asked {
-        Asked::Known(command) => commanded(z, command),
-        Asked::Refused(why) => Verdict::Refuses(why),
+        Asked::Sent(command) => commanded(z, command),
+        Asked::Failed(why) => Verdict::Refuses(why),
     }
 }
 

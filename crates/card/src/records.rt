@@ -15,7 +15,7 @@ ghost use Rattle.zone.specs.Zones.{zoneSound, holds};
 ghost use Rattle.card.specs.Answers.{outcomeSeen};
 ghost use Rattle.card.specs.Records.{emptyRecord, zoneAt, differ, sound, findOf};
 ghost use Rattle.card.specs.Calls.{addOf, removeOf, reportOf, applyOf};
-ghost use Rattle.card.specs.Steps.{reachOf, verdictSeen, stored, askOf};
+ghost use Rattle.card.specs.Inner.{reachOf, verdictSeen, stored, askOf};
 
 pub struct Record {
     pub zones: [Zone; 16],
@@ -29,7 +29,7 @@ pub enum Found {
 
 // What stands at a zone number: a present zone of a sound record, or why there is none.
 pub enum Reached {
-    At(Zone),
+    There(Zone),
     Stopped(Refusal),
 }
 
@@ -129,7 +129,7 @@ impl Record {
         if !z.present {
             return Reached::Stopped(Refusal::NoZone);
         }
-        Reached::At(z)
+        Reached::There(z)
     }
 
     // A refusal hands back the record it was given.
@@ -176,7 +176,7 @@ impl Record {
     {
         match self.reach(zone) {
             Reached::Stopped(why) => self.refused(why),
-            Reached::At(_) => self.changed(zone, Verdict::Removes),
+            Reached::There(_) => self.changed(zone, Verdict::Removes),
         }
     }
 
@@ -186,7 +186,7 @@ impl Record {
     {
         match self.reach(zone) {
             Reached::Stopped(why) => self.refused(why),
-            Reached::At(z) => self.changed(zone, reported(z, state, actual)),
+            Reached::There(z) => self.changed(zone, reported(z, state, actual)),
         }
     }
 
@@ -194,7 +194,7 @@ impl Record {
     pub fn apply(self, zone: usize, command: Command) -> Outcome
         ensures { λ r. ⌜ outcomeSeen r ≡ applyOf self zone command ⌝ }
     {
-        self.ask(zone, Asked::Known(command))
+        self.ask(zone, Asked::Sent(command))
     }
 
     // What a road brings to a zone: for a command the answer of `apply`, and else the refusal, unless
@@ -204,7 +204,7 @@ impl Record {
     {
         match self.reach(zone) {
             Reached::Stopped(why) => self.refused(why),
-            Reached::At(z) => self.changed(zone, heard(z, asked)),
+            Reached::There(z) => self.changed(zone, heard(z, asked)),
         }
     }
 }

@@ -5,10 +5,10 @@ use mathlib.Core.List.{List}
 use lib.ListN.{getD}
 use Rattle.zone.specs.declared.figures.Group.{Group}
 use Rattle.zone.specs.declared.figures.Group.the-variants.{Ahue, Hzbg, Rrue, Solw}
-use Rattle.zone.specs.Table.{index}
+use Rattle.zone.specs.Table.{index, formsOf}
 use Rattle.wire.specs.declared.Named.the-variants.{Is}
 use Rattle.wire.specs.declared.Parsed.{Parsed}
-use Rattle.wire.specs.Road.{writeRead, formsOf, commandRead}
+use Rattle.wire.specs.Road.{writeRead, commandRead}
 use Rattle.frame.specs.Frame.{frameRoad, writing, groupIndexed, bodyRead}
 
 -- "The index byte alone names the group"

@@ -21,7 +21,7 @@ use Rattle.wire.specs.declared.Named.the-variants.{Is, NoGroup}
 use Rattle.wire.specs.declared.Parsed.the-variants.{Known}
 use Rattle.wire.specs.Road.{carriesCommand, lengthOf}
 use Rattle.wire.proofs.Choices.{by-cond, unknown-never, nothing-never}
-use Rattle.wire.proofs.Row.{Lawful, Stands, write-reads, command-only}
+use Rattle.wire.proofs.Layouts.{Lawful, Stands, write-reads, command-only}
 use Rattle.frame.specs.declared.reading.Framed.the-variants.{Request}
 use Rattle.frame.specs.Sum.{checksumOf}
 use Rattle.frame.specs.Frame.{bytesOf, numberAt, frameRoad, bodyOf, framed, frameOf, shaped, bodyIn, addressIn, checksumRight, firstIndexed, groupIndexed, indexedRead, bodyRead, frameRead}

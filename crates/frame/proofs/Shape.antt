@@ -4,7 +4,7 @@ use mathlib.Core.List.{List}
 use Prim.Native.Nat.{ℕ, _+_, _≤_}
 use lib.ListN.{length, take, drop, getD}
 use borrow.Author.Tests.{eq-eqb, ne-eqb, le-leb}
-use Rattle.frame.specs.declared.reading.Framed.the-variants.{NoFrame, Checksum, Request}
+use Rattle.frame.specs.declared.reading.Framed.the-variants.{NoFrame, BadSum, Request}
 use Rattle.frame.specs.Sum.{checksumOf}
 use Rattle.frame.specs.Frame.{bodyRead, frameRead}
 
@@ -19,7 +19,7 @@ module _ (f : List ℕ) (l : ℕ) (w : l ≡ getD f 1 0) (h₁ : 9 ≤ length f)
     no-end n = simp (← w, le-leb _ _ h₁, eq-eqb _ _ h₂, eq-eqb _ _ h₃, eq-eqb l (getD f 2 0) (w ∙ h₄), eq-eqb _ _ h₅, ne-eqb _ _ n)
 
     module _ (h₆ : getD f (l + 5) 0 ≡ 0x16) where
-      pub no-sum : (checksumOf (take l (drop 4 f)) ≡ getD f (l + 4) 0 → ⊥) → Checksum (getD f 4 0) ≡ frameRead f
+      pub no-sum : (checksumOf (take l (drop 4 f)) ≡ getD f (l + 4) 0 → ⊥) → BadSum (getD f 4 0) ≡ frameRead f
       unfolding frameRead
       no-sum n = simp (← w, le-leb _ _ h₁, eq-eqb _ _ h₂, eq-eqb _ _ h₃, eq-eqb l (getD f 2 0) (w ∙ h₄), eq-eqb _ _ h₅, eq-eqb _ _ h₆, ne-eqb _ _ n)
 

@@ -17,7 +17,7 @@ use Rattle.wire.specs.declared.Parsed.{Parsed}
 use Rattle.wire.specs.declared.Parsed.the-variants.{Unknown}
 use Rattle.wire.specs.Road.{Road, figureBytes, commandRead}
 use Rattle.frame.specs.declared.reading.Framed.{Framed}
-use Rattle.frame.specs.declared.reading.Framed.the-variants.{NoFrame, Checksum, Request}
+use Rattle.frame.specs.declared.reading.Framed.the-variants.{NoFrame, BadSum, Request}
 use Rattle.frame.specs.Sum.{checksumOf}
 
 -- `width` bytes of n, "low byte first"
@@ -112,5 +112,5 @@ bodyRead body = indexedRead (groupIndexed (getD body 2 0)) body
 unfoldable pub frameRead : List ℕ → Framed
 frameRead f =
     cond (shaped f)
-    (cond (checksumRight f) (Request (addressIn f) (bodyRead (bodyIn f))) (Checksum (addressIn f)))
+    (cond (checksumRight f) (Request (addressIn f) (bodyRead (bodyIn f))) (BadSum (addressIn f)))
     NoFrame

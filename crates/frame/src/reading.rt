@@ -13,13 +13,14 @@ use zone::WindowFigures;
 ghost use mathlib.Core.Path.{_≡_};
 ghost use Prim.Native.Nat.{_+_, _≤_, _<_};
 ghost use lib.ListN.{length};
-ghost use Rattle.wire.specs.Road.{writeRead, formsOf, commandRead};
+ghost use Rattle.zone.specs.Table.{formsOf};
+ghost use Rattle.wire.specs.Road.{writeRead, commandRead};
 ghost use Rattle.frame.specs.Frame.{frameRoad, numberAt, writing, bodyRead, frameRead};
 
 // No frame; a frame whose checksum differs, with its address; a request, with its address.
 pub enum Framed {
     NoFrame,
-    Checksum(u8),
+    BadSum(u8),
     Request(u8, Parsed),
 }
 
@@ -178,7 +179,7 @@ pub fn read(frame: &[u8]) -> Framed
     let address = frame[4];
     let body = &frame[4..4 + l];
     if checksum(body) != frame[l + 4] {
-        return Framed::Checksum(address);
+        return Framed::BadSum(address);
     }
     Framed::Request(address, request(body))
 }

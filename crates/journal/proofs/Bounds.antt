@@ -16,14 +16,14 @@ use Rattle.wire.specs.declared.Figure.the-variants.{Value, Bad}
 use Rattle.wire.specs.Road.{Numbers, are, none, join}
 use Rattle.wire.specs.Room.{Filled}
 use Rattle.frame.specs.declared.reading.Framed.{Framed}
-use Rattle.frame.specs.declared.reading.Framed.the-variants.{NoFrame, Checksum, Request}
+use Rattle.frame.specs.declared.reading.Framed.the-variants.{NoFrame, BadSum, Request}
 use Rattle.frame.specs.Frame.{shaped, frameRead}
 use Rattle.roads.proofs.CallLaws.{bad-sum, right-sum}
 use Rattle.journal.specs.declared.asking.Entry.{Entry}
 use Rattle.journal.specs.Numbers.{decimalOf, digitRead, byteRead, bytesRead}
 use Rattle.journal.specs.Lines.{Asks, adds, removes, reports, says, frames, unreadable, N, X, M, T, F, tab, field, onward, decimals, addAsks, removeAsks, reportAsks, textTo, textAsks, bytesAsk, frameAsks, tooLong, shortAsks, asksOf}
 use Rattle.journal.specs.Journal.{orDash, outputLine}
-use Rattle.journal.specs.Steps.{entryOf, letterOf, frameReplied, replyOf, outputOf}
+use Rattle.journal.specs.Inner.{entryOf, letterOf, frameReplied, replyOf, outputOf}
 use Rattle.journal.proofs.Outputs.{decimal-fits, text-fits, framed-fits}
 
 -- ---- how long a line is, by what it asks
@@ -126,7 +126,7 @@ framed-least bytes number values = by-framed (frameRead bytes) refl
 
     by-framed : (framed : Framed) → frameRead bytes ≡ framed → length (frameReplied framed number values) ≤ 4 * length bytes
     by-framed NoFrame e = omega arith
-    by-framed (Checksum a) e = omega (arith, nine (bad-sum bytes a e .0), framed-fits (Checksum a) number values)
+    by-framed (BadSum a) e = omega (arith, nine (bad-sum bytes a e .0), framed-fits (BadSum a) number values)
     by-framed (Request a p) e = omega (arith, nine (right-sum bytes a p e .0), framed-fits (Request a p) number values)
 
 asked-fits : (asks : Asks) (number : ℕ) (values : List Figures) (n : ℕ) → least asks ≤ n → 7 + length (replyOf (entryOf asks) number values) ≤ 8 * (n + 1)

@@ -13,7 +13,7 @@ use Rattle.wire.specs.declared.Figure.the-variants.{Bad}
 use Rattle.line.specs.Field.{digitsBehind}
 use Rattle.journal.specs.Numbers.{leadingZero, decimalOf}
 use Rattle.journal.specs.Lines.{tab}
-use Rattle.journal.specs.Steps.{numeralOf, numeralAt}
+use Rattle.journal.specs.Inner.{numeralOf, numeralAt}
 
 pub decimal-short : (l : List ℕ) → length l < 1 → decimalOf l ≡ Bad
 unfolding decimalOf

@@ -20,7 +20,7 @@ use Rattle.journal.specs.declared.numbers.Numeral.the-variants as numera
 use Rattle.journal.specs.declared.asking.Triple.the-variants as triple
 use Rattle.journal.specs.Numbers.{decimalOf, bytesRead}
 use Rattle.journal.specs.Lines.{adds, reports, says, unreadable, tab, field, onward, decimals, addAsks, reportAsks, textTo, textAsks, bytesAsk, frameAsks, letterAsks, asksOf}
-use Rattle.journal.specs.Steps.{numeralOf, numeralAt, tripleOf}
+use Rattle.journal.specs.Inner.{numeralOf, numeralAt, tripleOf}
 
 -- `g` makes something of a decimal and of what follows it, and of no decimal always the same. `made` takes both from a numeral, `opened` from
 -- the list that begins with the tab: `behind` says that they agree.

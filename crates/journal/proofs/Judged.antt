@@ -14,7 +14,7 @@ use Rattle.zone.specs.Zones.{newZone}
 use Rattle.zone.proofs.Tests.{neither}
 use Rattle.card.specs.declared.answers.Refusal.the-variants as refusal
 use Rattle.card.specs.declared.judgements.Asked.{Asked}
-use Rattle.card.specs.declared.judgements.Asked.the-variants.{Refused}
+use Rattle.card.specs.declared.judgements.Asked.the-variants.{Failed}
 use Rattle.card.specs.declared.judgements.Verdict.{Verdict}
 use Rattle.card.specs.declared.judgements.Verdict.the-variants.{Refuses, Tells, Writes, Reports, Adds, Removes}
 use Rattle.card.specs.declared.records.Record.{Record}
@@ -24,18 +24,18 @@ use Rattle.card.specs.Answers.{Result, numberOf, valuesOf}
 use Rattle.card.specs.Refusals.{Row, _gives_, settled}
 use Rattle.card.specs.Records.{zoneAt, withZone, heldIn, sound, findOf, noZone}
 use Rattle.card.specs.Calls.{Judgement, addAt, addOf, removeAt, removeOf, reportAt, reportOf, atZone}
-use Rattle.card.specs.Steps.{answerBy, altersBy, afterBy, verdictSeen, judged, stored, askAt, askOf}
+use Rattle.card.specs.Inner.{answerBy, altersBy, afterBy, verdictSeen, judged, stored, askAt, askOf}
 use Rattle.card.proofs.Scans.{found-somewhere, found-nowhere}
 use Rattle.card.proofs.Found.{found-there}
-use Rattle.card.proofs.Steps.{same-zone, stored-settled}
+use Rattle.card.proofs.Inner.{same-zone, stored-settled}
 use Rattle.wire.specs.declared.Parsed.{Parsed}
 use Rattle.line.specs.Line.{lineRead}
 use Rattle.frame.specs.declared.reading.Framed.{Framed}
-use Rattle.frame.specs.declared.reading.Framed.the-variants.{NoFrame, Checksum, Request}
+use Rattle.frame.specs.declared.reading.Framed.the-variants.{NoFrame, BadSum, Request}
 use Rattle.frame.specs.Frame.{shaped, bodyIn, addressIn, bodyRead, frameRead}
 use Rattle.roads.specs.Acknowledgements.{textReply, frameReply}
 use Rattle.roads.specs.Calls.{isNowhere, zoneFound, holder, resultAt, textResult, frameResult, answerText, answerFrame}
-use Rattle.roads.specs.Steps.{askedBy}
+use Rattle.roads.specs.Inner.{askedBy}
 use Rattle.roads.proofs.CallLaws.{asked-text, no-shape, bad-sum, right-sum, held-sum, held-right}
 use Rattle.session.specs.Sessions.{text, frame, add, remove, report, inRoom, quiet}
 use Rattle.session.proofs.Demand3.{stays-sound}
@@ -44,7 +44,7 @@ use Rattle.journal.specs.declared.asking.Entry.the-variants.{Add, Remove
 use Rattle.journal.specs.Numbers.{inHex}
 use Rattle.journal.specs.Lines.{F, Asks, adds, removes, reports, says, frames, unreadable, asksOf}
 use Rattle.journal.specs.Journal.{lent, outputLine, Yield, yieldOf, lineYields}
-use Rattle.journal.specs.Steps.{entryOf, frameSought, soughtOf, lookUp, oneOfSixteen, placeOf, missing, unless, askedOfHolder, askedFramed, entryJudged, unfitOf, frameReplied, outputOf}
+use Rattle.journal.specs.Inner.{entryOf, frameSought, soughtOf, lookUp, oneOfSixteen, placeOf, missing, unless, askedOfHolder, askedFramed, entryJudged, unfitOf, frameReplied, outputOf}
 
 -- where the record is not sound, every readable line is refused for that
 pub unfit-judged : (fit : Bool) (entry : Entry) (found : Found) (z : Zone) → not fit ≡ true → verdictSeen z (Refuses (unfitOf entry)) ≡ judged z (entryJudged fit entry found z)
@@ -109,7 +109,7 @@ text-at r n parsed = zone-at r n (λ z. askAt z (askedBy parsed)) ∙ by-missing
   where
     by-missing : (t s : Bool)
         → at r (oneOfSixteen n) (unless ((not s gives 2) ∷ (t gives 3) ∷ []) (askAt (zoneAt r (oneOfSixteen n)) (askedBy parsed)))
-        ≡ at r (oneOfSixteen n) (unless ((not s gives 2) ∷ []) (askAt (zoneAt r (oneOfSixteen n)) (cond t (Refused refusal.NoZone) (askedBy parsed))))
+        ≡ at r (oneOfSixteen n) (unless ((not s gives 2) ∷ []) (askAt (zoneAt r (oneOfSixteen n)) (cond t (Failed refusal.NoZone) (askedBy parsed))))
     by-missing true true = refl
     by-missing true false = refl
     by-missing false true = refl
@@ -134,11 +134,11 @@ held-at r address n what e = by-sound (sound r) refl
 
 -- nobody holds the address: 5, whatever the frame brings
 nobody-at : (r : Record) (bytes : List ℕ) → shaped bytes ≡ true → findOf r (addressIn bytes) ≡ Nowhere
-    → frameResult r bytes lent ≡ at r 15 (unless ((not (sound r) gives 2) ∷ []) (askAt (zoneAt r 15) (Refused refusal.NobodyHolds)))
+    → frameResult r bytes lent ≡ at r 15 (unless ((not (sound r) gives 2) ∷ []) (askAt (zoneAt r 15) (Failed refusal.NobodyHolds)))
 nobody-at r bytes h e = rw (h, e) (by-sound (sound r))
   where
     by-sound : (s : Bool)
-        → resultAt r 16 ((not s gives 2) ∷ (true gives 5) ∷ []) (bodyRead (bodyIn bytes)) ≡ at r 15 (unless ((not s gives 2) ∷ []) (askAt (zoneAt r 15) (Refused refusal.NobodyHolds)))
+        → resultAt r 16 ((not s gives 2) ∷ (true gives 5) ∷ []) (bodyRead (bodyIn bytes)) ≡ at r 15 (unless ((not s gives 2) ∷ []) (askAt (zoneAt r 15) (Failed refusal.NobodyHolds)))
     by-sound true = refl
     by-sound false = refl
 
@@ -153,7 +153,7 @@ frame-at : (r : Record) (bytes : List ℕ)
     ≡ at r (oneOfSixteen (zoneFound (foundBy r (frameRead bytes)))) (entryJudged (sound r) (Frame (frameRead bytes)) (foundBy r (frameRead bytes)) (zoneAt r (oneOfSixteen (zoneFound (foundBy r (frameRead bytes))))))
 frame-at r bytes = by-framed (frameRead bytes) refl
   where
-    shapeless : (s : Bool) → resultAt r (zoneFound (holder r bytes)) ((not s gives 2) ∷ (true gives 4) ∷ []) (bodyRead (bodyIn bytes)) ≡ at r 15 (unless ((not s gives 2) ∷ []) (askAt (zoneAt r 15) (Refused refusal.NoFrame)))
+    shapeless : (s : Bool) → resultAt r (zoneFound (holder r bytes)) ((not s gives 2) ∷ (true gives 4) ∷ []) (bodyRead (bodyIn bytes)) ≡ at r 15 (unless ((not s gives 2) ∷ []) (askAt (zoneAt r 15) (Failed refusal.NoFrame)))
     shapeless true = refl
     shapeless false = refl
 
@@ -165,9 +165,9 @@ frame-at r bytes = by-framed (frameRead bytes) refl
 
     by-framed : (framed : Framed) → frameRead bytes ≡ framed → frameResult r bytes lent ≡ framedAt r framed (foundBy r framed)
     by-framed NoFrame e = rw (no-shape bytes e) (shapeless (sound r))
-    by-framed (Checksum a) e =
+    by-framed (BadSum a) e =
         let k = bad-sum bytes a e in
-        rw (k .2) (by-holder (Checksum a) (Refused refusal.Checksum) (k .0) (λ f. refl) (λ n q. held-sum r bytes lent (omega arith) (k .0) n q (k .1)) (findOf r (addressIn bytes)) refl)
+        rw (k .2) (by-holder (BadSum a) (Failed refusal.Checksum) (k .0) (λ f. refl) (λ n q. held-sum r bytes lent (omega arith) (k .0) n q (k .1)) (findOf r (addressIn bytes)) refl)
     by-framed (Request a p) e =
         let k = right-sum bytes a p e in
         rw (k .2) (by-holder (Request a p) (askedBy p) (k .0) (λ f. refl) (λ n q. rw (k .3) (held-right r bytes lent (omega arith) (k .0) n q (k .1))) (findOf r (addressIn bytes)) refl)
@@ -198,7 +198,7 @@ frame-shown r bytes =
     by-framed : (framed : Framed) → frameRead bytes ≡ framed
         → inHex (frameReply (addressIn bytes) (frameResult r bytes lent .number) (frameResult r bytes lent .values)) ≡ frameReplied framed (frameResult r bytes lent .number) (frameResult r bytes lent .values)
     by-framed NoFrame e = silence (sound r) (frameResult r bytes lent) (rw (no-shape bytes e))
-    by-framed (Checksum a) e = rw (bad-sum bytes a e .2)
+    by-framed (BadSum a) e = rw (bad-sum bytes a e .2)
     by-framed (Request a p) e = rw (right-sum bytes a p e .2)
 
 -- where an entry looks, and what it comes to there

@@ -22,7 +22,7 @@ use Rattle.wire.specs.Room.{filled, Filled}
 use Rattle.wire.proofs.Room.{placed-next, lent-part}
 use Rattle.line.specs.Line.{A, lineWith, digitsFor}
 use Rattle.frame.specs.declared.reading.Framed.{Framed}
-use Rattle.frame.specs.declared.reading.Framed.the-variants.{NoFrame, Checksum, Request}
+use Rattle.frame.specs.declared.reading.Framed.the-variants.{NoFrame, BadSum, Request}
 use Rattle.frame.specs.Frame.{bodyWith, framed}
 use Rattle.roads.specs.declared.answering.Acknowledgement.{Acknowledgement}
 use Rattle.roads.specs.declared.answering.Acknowledgement.the-variants.{Okay, CommandError, SyntaxError, CommandLock, TransferError}
@@ -35,7 +35,7 @@ use Rattle.journal.specs.Numbers.{numberDigits, inHex}
 use Rattle.journal.specs.Lines.{tab}
 use Rattle.journal.specs.Journal.{lineFeed, orDash, outputLine}
 use Rattle.journal.proofs.Hex.{hex-length}
-use Rattle.journal.specs.Steps.{frameReplied, replyOf}
+use Rattle.journal.specs.Inner.{frameReplied, replyOf}
 
 -- ---- how long the parts are
 
@@ -114,7 +114,7 @@ frame-fits address number values = either (isZero number) (frameDone address val
 
 pub framed-fits : (framed : Framed) (number : ℕ) (values : List Figures) → length (frameReplied framed number values) ≤ 32
 framed-fits NoFrame number values = omega arith
-framed-fits (Checksum address) number values = omega (arith, hex-length (frameReply address number values), frame-fits address number values)
+framed-fits (BadSum address) number values = omega (arith, hex-length (frameReply address number values), frame-fits address number values)
 framed-fits (Request address parsed) number values = omega (arith, hex-length (frameReply address number values), frame-fits address number values)
 
 -- a reply to an entry, or the dash

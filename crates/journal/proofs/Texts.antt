@@ -13,7 +13,7 @@ use Rattle.wire.proofs.Room.{lent-part}
 use Rattle.journal.specs.Journal.{lineFeed, lineYields, linesYield}
 use Rattle.journal.specs.declared.blocks.Done.{Done}
 use Rattle.journal.specs.Blocks.{ended, begun, fed, keptSeen}
-use Rattle.journal.specs.Steps.{Worked}
+use Rattle.journal.specs.Inner.{Worked}
 use Rattle.journal.proofs.Parts.{plain-ended, plain-begun, no-feed, ended-line, begun-line}
 
 -- ---- one turn: the line from `at` to the line feed at `end`

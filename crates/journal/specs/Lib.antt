@@ -1,6 +1,6 @@
--- The log: document 01, "The log program". Start with Lines, then Numbers, Journal and Blocks; Steps is for the functions on the way.
+-- The log: document 01, "The log program". Start with Lines, then Numbers, Journal and Blocks; Inner has the steps on the way, which nobody has to believe.
 pub mod Numbers
 pub mod Lines
 pub mod Journal
 pub mod Blocks
-pub mod Steps
+pub mod Inner

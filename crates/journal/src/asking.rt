@@ -9,7 +9,7 @@ ghost use mathlib.Core.Path.{_≡_};
 ghost use Prim.Native.Nat.{_≤_};
 ghost use lib.ListN.{length, drop};
 ghost use Rattle.journal.specs.Lines.{decimals, addAsks, removeAsks, reportAsks, textAsks, frameAsks, asksOf};
-ghost use Rattle.journal.specs.Steps.{digitValues, tripleOf, entryOf};
+ghost use Rattle.journal.specs.Inner.{digitValues, tripleOf, entryOf};
 
 // The letters N, X, M, T and F, and every other line; a command or a frame has been read.
 pub enum Entry {

@@ -14,7 +14,7 @@ ghost use lib.ListN.{length, take, drop};
 ghost use Rattle.bytes.specs.Bytes.{indexOf};
 ghost use Rattle.journal.specs.Journal.{lineFeed};
 ghost use Rattle.journal.specs.Blocks.{fed, keptSeen};
-ghost use Rattle.journal.specs.Steps.{Worked};
+ghost use Rattle.journal.specs.Inner.{Worked};
 
 // The record after the lines that were answered, where they end, and how much output there is.
 struct Done {

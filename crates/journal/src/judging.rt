@@ -15,10 +15,10 @@ ghost use mathlib.Core.Bool.{true, not};
 ghost use lib.Dec.{leb};
 ghost use mathlib.Core.List.{[], _∷_};
 ghost use Rattle.card.specs.Refusals.{_gives_};
-ghost use Rattle.card.specs.Steps as card;
+ghost use Rattle.card.specs.Inner as card;
 ghost use Rattle.card.specs.Calls.{addAt, removeAt, reportAt};
 ghost use Rattle.roads.specs.Calls.{isNowhere, zoneFound};
-ghost use Rattle.journal.specs.Steps as steps;
+ghost use Rattle.journal.specs.Inner as steps;
 
 // The address that is to be looked up.
 pub enum Sought {
@@ -31,7 +31,7 @@ fn whom_framed(framed: Framed) -> Sought
 {
     match framed {
         Framed::NoFrame => Sought::Nobody,
-        Framed::Checksum(address) => Sought::Address(address as u32),
+        Framed::BadSum(address) => Sought::Address(address as u32),
         Framed::Request(address, _) => Sought::Address(address as u32),
     }
 }
@@ -99,7 +99,7 @@ fn asked_of(z: Zone, zone: usize, parsed: Parsed) -> Asked
     ensures { λ r. ⌜ r ≡ steps.askedOf z zone parsed ⌝ }
 {
     if is_missing(z, zone) {
-        return Asked::Refused(Refusal::NoZone);
+        return Asked::Failed(Refusal::NoZone);
     }
     roads::asked(parsed)
 }
@@ -110,7 +110,7 @@ fn asked_of_holder(found: Found, asked: Asked) -> Asked
 {
     match found {
         Found::At(_) => asked,
-        Found::Nowhere => Asked::Refused(Refusal::NobodyHolds),
+        Found::Nowhere => Asked::Failed(Refusal::NobodyHolds),
     }
 }
 
@@ -118,8 +118,8 @@ fn asked_framed(framed: Framed, found: Found) -> Asked
     ensures { λ r. ⌜ r ≡ steps.askedFramed framed found ⌝ }
 {
     match framed {
-        Framed::NoFrame => Asked::Refused(Refusal::NoFrame),
-        Framed::Checksum(_) => asked_of_holder(found, Asked::Refused(Refusal::Checksum)),
+        Framed::NoFrame => Asked::Failed(Refusal::NoFrame),
+        Framed::BadSum(_) => asked_of_holder(found, Asked::Failed(Refusal::Checksum)),
         Framed::Request(_, parsed) => asked_of_holder(found, roads::asked(parsed)),
     }
 }
@@ -184,7 +184,7 @@ pub fn judged(fit: bool, entry: Entry, found: Found, z: Zone) -> Verdict
         }
         Entry::Text(zone, parsed) => asked_of(z, zone, parsed),
         Entry::Frame(framed) => asked_framed(framed, found),
-        Entry::Unreadable => Asked::Refused(Refusal::Unreadable),
+        Entry::Unreadable => Asked::Failed(Refusal::Unreadable),
     };
     heard(z, asked)
 }

@@ -5,7 +5,7 @@ ghost use Prim.Native.Nat.{_≤_, _<_};
 ghost use lib.ListN.{length};
 ghost use Rattle.wire.specs.Room.{Filled};
 ghost use Rattle.journal.specs.Numbers.{decimalOf, bytesRead, inHex, hexDigit};
-ghost use Rattle.journal.specs.Steps.{numeralAt, digitValues, counted, countOf};
+ghost use Rattle.journal.specs.Inner.{numeralAt, digitValues, counted, countOf};
 
 // A decimal, and the index behind it.
 pub enum Numeral {

@@ -13,7 +13,7 @@ ghost use Rattle.roads.specs.Acknowledgements.{textReply, frameReply};
 ghost use Rattle.journal.specs.Numbers.{numberDigits, inHex};
 ghost use Rattle.journal.specs.Lines.{tab};
 ghost use Rattle.journal.specs.Journal.{orDash};
-ghost use Rattle.journal.specs.Steps.{letterOf, replyOf, frameReplied, outputOf};
+ghost use Rattle.journal.specs.Inner.{letterOf, replyOf, frameReplied, outputOf};
 
 fn letter(entry: Entry) -> u8
     ensures { λ r. ⌜ r ≡ letterOf entry ⌝ }
@@ -86,7 +86,7 @@ fn put_framed_reply(framed: Framed, answer: Answer, room: &mut [u8]) -> usize
 {
     match framed {
         Framed::NoFrame => put_dash(room),
-        Framed::Checksum(address) => put_frame_reply(address, answer, room),
+        Framed::BadSum(address) => put_frame_reply(address, answer, room),
         Framed::Request(address, _) => put_frame_reply(address, answer, room),
     }
 }

@@ -21,7 +21,7 @@ use Rattle.wire.specs.declared.Named.the-variants.{Is, NoGroup}
 use Rattle.wire.specs.declared.Parsed.the-variants.{Known}
 use Rattle.wire.specs.Road.{carriesCommand, figureBytes, lengthOf, commandRead}
 use Rattle.wire.proofs.Choices.{by-cond, unknown-never, nothing-never}
-use Rattle.wire.proofs.Row.{Lawful, Stands, write-reads, read-reads, command-only}
+use Rattle.wire.proofs.Layouts.{Lawful, Stands, write-reads, read-reads, command-only}
 use Rattle.line.specs.Field.{upToSpace, digitsOf, figureOf}
 use Rattle.line.specs.Line.{digitsFor, L, S, textRoad, lineOf, same, firstNamed, groupNamed, namedRead, lineRead}
 use Rattle.line.proofs.DigitRule.{digits-length, field-reads, digit-field}

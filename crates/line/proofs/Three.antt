@@ -9,7 +9,7 @@ use Rattle.wire.specs.Road.{Numbers, are, none, join}
 use Rattle.line.specs.declared.reading.Limits.{Limits}
 use Rattle.line.specs.declared.reading.Limits.the-variants as limits
 use Rattle.line.specs.Field.{figureOf}
-use Rattle.line.specs.Steps.{watchedBy, watchedOf}
+use Rattle.line.specs.Inner.{watchedBy, watchedOf}
 
 abbrev joined : List ℕ → Numbers → Numbers
 joined l rest = join (figureOf l 5 1) (join (figureOf l 7 3) (join (figureOf l 11 3) rest))

@@ -1,4 +1,4 @@
 -- The text road: document 01, "The text road". Start with Line.
 pub mod Field
 pub mod Line
-pub mod Steps
+pub mod Inner

@@ -12,9 +12,9 @@ use zone::ReferenceFigures;
 use zone::SetpointFigures;
 use zone::WindowFigures;
 ghost use mathlib.Core.Path.{_≡_};
-ghost use Rattle.zone.specs.Table.{Form};
-ghost use Rattle.wire.specs.Road.{formRead, writeRead, formsOf};
-ghost use Rattle.line.specs.Steps.{watchedOf};
+ghost use Rattle.zone.specs.Table.{Form, formsOf};
+ghost use Rattle.wire.specs.Road.{formRead, writeRead};
+ghost use Rattle.line.specs.Inner.{watchedOf};
 ghost use Rattle.line.specs.Line.{textRoad, same, groupNamed, lineRead};
 
 // Two byte strings are the same.

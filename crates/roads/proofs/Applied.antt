@@ -14,7 +14,7 @@ use Rattle.card.specs.declared.records.Record.{Record}
 use Rattle.card.specs.Answers.{Result}
 use Rattle.card.specs.Records.{zoneAt, sound}
 use Rattle.card.specs.Calls.{applyOf}
-use Rattle.card.specs.Steps.{askOf}
+use Rattle.card.specs.Inner.{askOf}
 use Rattle.card.proofs.Found.{find-own}
 use Rattle.card.proofs.Sets.{read-tells}
 use Rattle.wire.specs.declared.Parsed.the-variants.{Known}
@@ -25,10 +25,10 @@ use Rattle.frame.specs.Frame.{frameRoad, bodyWith, framed, frameOf}
 use Rattle.frame.proofs.Round.{frame-reads}
 use Rattle.roads.specs.Acknowledgements.{textReply, frameReply}
 use Rattle.roads.specs.Calls.{replyIn, textResult, inTextReply, answerText, frameResult, inFrameReply, answerFrame}
-use Rattle.roads.specs.Steps.{askedBy}
+use Rattle.roads.specs.Inner.{askedBy}
 use Rattle.roads.proofs.CallLaws.{asked-text, right-sum, held-right}
 
-ask-known : (r : Record) (n : ℕ) (c : Command) → askOf r n (asked.Known c) ≡ applyOf r n c
+ask-known : (r : Record) (n : ℕ) (c : Command) → askOf r n (asked.Sent c) ≡ applyOf r n c
 unfolding askOf applyOf
 ask-known r n c = refl
 

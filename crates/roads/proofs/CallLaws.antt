@@ -9,26 +9,26 @@ use borrow.Author.Tests.{le-ltb}
 use Rattle.card.specs.declared.answers.Refusal.the-variants as refusal
 use Rattle.card.specs.declared.answers.Answer.{Answer}
 use Rattle.card.specs.declared.judgements.Asked.{Asked}
-use Rattle.card.specs.declared.judgements.Asked.the-variants.{Refused}
+use Rattle.card.specs.declared.judgements.Asked.the-variants.{Failed}
 use Rattle.card.specs.declared.records.Record.{Record}
 use Rattle.card.specs.declared.records.Found.the-variants.{At, Nowhere}
 use Rattle.card.specs.declared.records.Outcome.{Outcome}
 use Rattle.card.specs.Answers.{Result, numberOf, valuesOf, outcomeSeen}
 use Rattle.card.specs.Refusals.{_gives_, settled}
 use Rattle.card.specs.Records.{zoneAt, withZone, sound, findOf, noZone}
-use Rattle.card.specs.Steps.{askOf}
+use Rattle.card.specs.Inner.{askOf}
 use Rattle.card.proofs.Found.{found-there}
 use Rattle.wire.specs.declared.Parsed.{Parsed}
 use Rattle.wire.specs.declared.Parsed.the-variants.{Known, Unknown, Syntax}
 use Rattle.wire.specs.Room.{Filled}
 use Rattle.wire.proofs.Choices.{by-cond}
 use Rattle.line.specs.Line.{lineRead}
-use Rattle.frame.specs.declared.reading.Framed.the-variants.{NoFrame, Checksum, Request}
+use Rattle.frame.specs.declared.reading.Framed.the-variants.{NoFrame, BadSum, Request}
 use Rattle.frame.specs.Frame.{shaped, bodyIn, addressIn, checksumRight, bodyRead, frameRead}
 use Rattle.roads.specs.Acknowledgements.{textReply, frameReply}
 use Rattle.roads.specs.Calls.{repliedSeen, said, parsedRows, textResult, inTextReply, answerText, zoneFound, holder, resultAt, frameResult, inFrameReply, answerFrame}
-use Rattle.roads.specs.Steps.{askedBy, silentOf, frameAt}
-use Rattle.roads.proofs.Answers.{said-of}
+use Rattle.roads.specs.Inner.{askedBy, silentOf, frameAt}
+use Rattle.roads.proofs.Seen.{said-of}
 
 -- ---- what a line or a body brings to a zone is judged by the rows 7, 8, 9, 10
 
@@ -62,7 +62,7 @@ no-shape f h =
     (λ s k. by-cond (checksumRight f) k (λ c e. absurd (let z : _≡_ {A = ℕ} 0 1 = cc in omega arith)) (λ c e. absurd (let z : _≡_ {A = ℕ} 0 1 = cc in omega arith)))
     (λ s k. s)
 
-pub bad-sum : (f : List ℕ) (a : ℕ) → frameRead f ≡ Checksum a → (shaped f ≡ true) × (checksumRight f ≡ false) × (a ≡ addressIn f)
+pub bad-sum : (f : List ℕ) (a : ℕ) → frameRead f ≡ BadSum a → (shaped f ≡ true) × (checksumRight f ≡ false) × (a ≡ addressIn f)
 unfolding frameRead
 bad-sum f a h =
     by-cond (shaped f) h
@@ -98,7 +98,7 @@ module _ (r : Record) (f room : List ℕ) (h : 32 ≤ length room) (s : shaped f
       by-sound false = refl
 
   -- a held address: what the frame brings is asked of the zone that was found
-  pub held-sum : (n : ℕ) → findOf r (addressIn f) ≡ At n → checksumRight f ≡ false → askOf r n (Refused refusal.Checksum) ≡ frameResult r f room
+  pub held-sum : (n : ℕ) → findOf r (addressIn f) ≡ At n → checksumRight f ≡ false → askOf r n (Failed refusal.Checksum) ≡ frameResult r f room
   unfolding askOf
   held-sum n e c = rw (le-ltb (length room) 32 h, s, e, c) (by-sound (sound r) refl)
     where
@@ -123,7 +123,7 @@ module _ (r : Record) (f room : List ℕ) (h : 32 ≤ length room) (s : shaped f
   holder-answer what asked = by-found (findOf r (addressIn f)) refl
     where
       by-found : (x : Rattle.card.specs.declared.records.Found.Found) → findOf r (addressIn f) ≡ x
-          → Rattle.roads.specs.Steps.byHolder r (addressIn f) what room x ≡ inFrameReply (addressIn f) (frameResult r f room) room
+          → Rattle.roads.specs.Inner.byHolder r (addressIn f) what room x ≡ inFrameReply (addressIn f) (frameResult r f room) room
       by-found Nowhere e = unheld e
       by-found (At n) e = ap (λ (o : Result Record). inFrameReply (addressIn f) o room) (asked n e)
 

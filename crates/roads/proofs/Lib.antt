@@ -1,4 +1,4 @@
-pub mod Answers
+pub mod Seen
 pub mod CallLaws
 pub mod Worked
 pub mod Exactly

@@ -13,14 +13,14 @@ use Rattle.zone.specs.declared.figures.Figures.{Figures}
 use Rattle.zone.specs.declared.figures.Command.the-variants.{Write}
 use Rattle.zone.specs.declared.zones.Zone.{Zone}
 use Rattle.zone.specs.Lists.{within, every}
-use Rattle.zone.specs.Table.{Column, Form, deadline, window, hzbg, rrue, solw, row}
+use Rattle.zone.specs.Table.{Column, Form, deadline, window, hzbg, rrue, solw, layout}
 use Rattle.zone.specs.Figures.{formOf, numbers, entries, inRange}
 use Rattle.zone.specs.Zones.{figuresOf, rangeKnown}
 use Rattle.zone.proofs.Tests.{never, both}
 use Rattle.zone.proofs.Sound.{Fit, fits}
 use Rattle.card.specs.declared.records.Record.{Record}
 use Rattle.card.specs.Records.{zoneAt, sound}
-use Rattle.card.proofs.Stored.{zone-sound}
+use Rattle.card.proofs.Storing.{zone-sound}
 use Rattle.wire.specs.declared.Parsed.the-variants.{Known}
 use Rattle.wire.specs.Road.{Road, carried, carries, carriesCommand}
 use Rattle.line.specs.Line.{A, S, textRoad, lineWith, lineOf, lineRead}
@@ -49,31 +49,31 @@ in-both road range (k ∷ ks) (n ∷ ns) b h =
     let small : n < road .bound (k .kind) = omega (arith, high, ltb-true (k .highest range) (road .bound (k .kind)) (room .0)) in
     rw (lt-ltb n (road .bound (k .kind)) small) (in-both road range ks ns (room .1) (judged .1))
 
-text-below : (form : Form) → (below textRoad 300 (row form .columns) ≡ true) × (below textRoad 500 (row form .columns) ≡ true)
+text-below : (form : Form) → (below textRoad 300 (layout form .columns) ≡ true) × (below textRoad 500 (layout form .columns) ≡ true)
 text-below deadline = (refl, refl)
 text-below window = (refl, refl)
 text-below hzbg = (refl, refl)
 text-below rrue = (refl, refl)
 text-below solw = (refl, refl)
 
-frame-below : (form : Form) → (below frameRoad 300 (row form .columns) ≡ true) × (below frameRoad 500 (row form .columns) ≡ true)
+frame-below : (form : Form) → (below frameRoad 300 (layout form .columns) ≡ true) × (below frameRoad 500 (layout form .columns) ≡ true)
 frame-below deadline = (refl, refl)
 frame-below window = (refl, refl)
 frame-below hzbg = (refl, refl)
 frame-below rrue = (refl, refl)
 frame-below solw = (refl, refl)
 
-known : (road : Road) (range : ℕ) (form : Form) → (below road 300 (row form .columns) ≡ true) × (below road 500 (row form .columns) ≡ true) → rangeKnown range ≡ true → below road range (row form .columns) ≡ true
+known : (road : Road) (range : ℕ) (form : Form) → (below road 300 (layout form .columns) ≡ true) × (below road 500 (layout form .columns) ≡ true) → rangeKnown range ≡ true → below road range (layout form .columns) ≡ true
 known road range form b h = by-range (eqb range 300) (eqb range 500) refl refl h
   where
-    by-range : (t u : Bool) → eqb range 300 ≡ t → eqb range 500 ≡ u → (t || u) ≡ true → below road range (row form .columns) ≡ true
+    by-range : (t u : Bool) → eqb range 300 ≡ t → eqb range 500 ≡ u → (t || u) ≡ true → below road range (layout form .columns) ≡ true
     by-range true u e k h = rw (eqb-true range 300 e) (b .0)
     by-range false true e k h = rw (eqb-true range 500 k) (b .1)
     by-range false false e k h = never h
 
-in-range-carried : (road : Road) (range : ℕ) (f : Figures) → ((form : Form) → (below road 300 (row form .columns) ≡ true) × (below road 500 (row form .columns) ≡ true)) → rangeKnown range ≡ true → inRange range f ≡ true → carries road f ≡ true
+in-range-carried : (road : Road) (range : ℕ) (f : Figures) → ((form : Form) → (below road 300 (layout form .columns) ≡ true) × (below road 500 (layout form .columns) ≡ true)) → rangeKnown range ≡ true → inRange range f ≡ true → carries road f ≡ true
 unfolding inRange carries
-in-range-carried road range f b k h = in-both road range (row (formOf f) .columns) (numbers f) (known road range (formOf f) (b (formOf f)) k) h
+in-range-carried road range f b k h = in-both road range (layout (formOf f) .columns) (numbers f) (known road range (formOf f) (b (formOf f)) k) h
 
 -- a figure in its range can be carried by both roads
 pub in-range-both : (range : ℕ) (f : Figures) → rangeKnown range ≡ true → inRange range f ≡ true → (carries textRoad f ≡ true) × (carries frameRoad f ≡ true)

@@ -12,7 +12,7 @@ ghost use mathlib.Core.Path.{_≡_};
 ghost use Prim.Native.Nat.{_≤_};
 ghost use lib.ListN.{length};
 ghost use Rattle.roads.specs.Calls.{repliedSeen, answerText, answerFrame};
-ghost use Rattle.roads.specs.Steps.{askedBy, silentOf, frameAt};
+ghost use Rattle.roads.specs.Inner.{askedBy, silentOf, frameAt};
 
 pub struct Replied {
     pub answer: Answer,
@@ -25,9 +25,9 @@ pub fn asked(parsed: Parsed) -> Asked
     ensures { λ r. ⌜ r ≡ askedBy parsed ⌝ }
 {
     match parsed {
-        Parsed::Known(command) => Asked::Known(command),
-        Parsed::Unknown => Asked::Refused(Refusal::Unknown),
-        Parsed::Syntax => Asked::Refused(Refusal::Syntax),
+        Parsed::Known(command) => Asked::Sent(command),
+        Parsed::Unknown => Asked::Failed(Refusal::Unknown),
+        Parsed::Syntax => Asked::Failed(Refusal::Syntax),
     }
 }
 
@@ -106,7 +106,7 @@ pub fn frame(r: Record, frame: &[u8], room: &mut [u8]) -> Replied
     }
     match frame::read(frame) {
         Framed::NoFrame => silent(r, Refusal::NoFrame),
-        Framed::Checksum(address) => to_holder(r, address, Asked::Refused(Refusal::Checksum), room),
+        Framed::BadSum(address) => to_holder(r, address, Asked::Failed(Refusal::Checksum), room),
         Framed::Request(address, parsed) => to_holder(r, address, asked(parsed), room),
     }
 }

@@ -21,7 +21,7 @@ use Rattle.card.specs.Records.{zoneAt, sound}
 use Rattle.card.specs.Calls.{commandAt}
 use Rattle.card.specs.Rules.{rowAt}
 use Rattle.card.proofs.Kept.{add-keeps, remove-keeps, report-keeps, apply-keeps}
-use Rattle.card.proofs.Stored.{zone-sound}
+use Rattle.card.proofs.Storing.{zone-sound}
 use Rattle.wire.specs.Road.{carried, carries, carriesCommand}
 use Rattle.line.specs.Line.{textRoad, lineOf}
 use Rattle.line.proofs.Round.{line-only}

@@ -16,7 +16,7 @@ use Rattle.card.specs.Answers.{Result}
 use Rattle.card.specs.Records.{zoneAt, sound, noZone}
 use Rattle.card.specs.Calls.{commandAt, applyOf}
 use Rattle.card.specs.Rules.{rowAt}
-use Rattle.card.specs.Steps.{askOf}
+use Rattle.card.specs.Inner.{askOf}
 use Rattle.card.proofs.Found.{found-first, found-there}
 use Rattle.wire.specs.declared.Parsed.{Parsed}
 use Rattle.wire.specs.declared.Parsed.the-variants.{Known, Unknown, Syntax}
@@ -24,7 +24,7 @@ use Rattle.wire.specs.Road.{carriesCommand}
 use Rattle.line.specs.Line.{textRoad, lineOf, lineRead}
 use Rattle.frame.specs.declared.reading.Framed.the-variants.{Request}
 use Rattle.frame.specs.Frame.{frameRoad, frameOf, addressIn, bodyIn, shaped, checksumRight, bodyRead, frameRead}
-use Rattle.roads.specs.Steps.{askedBy}
+use Rattle.roads.specs.Inner.{askedBy}
 use Rattle.roads.specs.Calls.{parsedRows, textResult, answerText, isNowhere, zoneFound, holder, frameResult, answerFrame}
 use Rattle.roads.proofs.CallLaws.{asked-text, held-right}
 use Rattle.roads.proofs.Applied.{text-applies, frame-applies}

@@ -28,25 +28,25 @@ use Rattle.frame.proofs.Requests.{index-again}
 use Rattle.roads.specs.Calls.{answerText, answerFrame}
 use Rattle.session.specs.Sessions.{Call, after, run}
 use Rattle.session.specs.Changes.{Becomes, stays, written, was-reported, was-removed, was-added, NotRewritten}
-use Rattle.session.specs.Demands.{Present, Stored, EveryWriteIsStored, StaysStored}
+use Rattle.session.specs.Demands.{Present, SetsOnly, EveryWriteIsStored, StaysStored}
 use Rattle.session.proofs.Done.{Applied, line-done, frame-done}
 use Rattle.session.proofs.Changes.{becomes}
 
 -- ---- stored, whichever way it came
 
-applied : (r : Record) (n : ℕ) (f : Figures) → applyOf r n (Write f) .number ≡ 0 → Stored r n f (applyOf r n (Write f) .after)
+applied : (r : Record) (n : ℕ) (f : Figures) → applyOf r n (Write f) .number ≡ 0 → SetsOnly r n f (applyOf r n (Write f) .after)
 applied r n f d = record { sets = write-sets r n f d; others = apply-keeps r n (Write f) .others }
 
-came : {o : Result Record} (r : Record) (n : ℕ) (f : Figures) → Applied o r n (Write f) → Stored r n f (o .after)
+came : {o : Result Record} (r : Record) (n : ℕ) (f : Figures) → Applied o r n (Write f) → SetsOnly r n f (o .after)
 came r n f w = rw (w .same) (applied r n f (w .done))
 
 as-line : (r : Record) (n : ℕ) (f : Figures) (room : List ℕ) → carriesCommand textRoad (Write f) ≡ true → answerText r n (lineOf (Write f)) room .said .number ≡ 0
-    → Stored r n f (answerText r n (lineOf (Write f)) room .after)
+    → SetsOnly r n f (answerText r n (lineOf (Write f)) room .after)
 unfolding answerText
 as-line r n f room k e = came r n f (line-done r n (Write f) room k e)
 
 as-frame : (r : Record) (n : ℕ) (f : Figures) (room : List ℕ) → Present r n → carriesCommand frameRoad (Write f) ≡ true → answerFrame r (frameOf (zoneAt r n .address) (Write f)) room .said .number ≡ 0
-    → Stored r n f (answerFrame r (frameOf (zoneAt r n .address) (Write f)) room .after)
+    → SetsOnly r n f (answerFrame r (frameOf (zoneAt r n .address) (Write f)) room .after)
 unfolding answerFrame
 as-frame r n f room p k e = came r n f (frame-done r n (Write f) room p k e)
 

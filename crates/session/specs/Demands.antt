@@ -89,7 +89,7 @@ abbrev pub fixed : Call → ℕ → List ℕ
 fixed (inRoom call room) number = fixedIn call number
 fixed (quiet call) number = []
 
-pub record Answers (r : Record) (call : Call) : Type 0 where
+pub record EndsWell (r : Record) (call : Call) : Type 0 where
   -- "Every call ends with one of the numbered answers of document 01."
   pub numbered : among (answerTo r call .said .number) (0 ∷ order call) ≡ true
   -- "Where several apply, the first in the call's order is given" (document 01): the first of its refusals, and these stand in the printed order
@@ -100,7 +100,7 @@ pub record Answers (r : Record) (call : Call) : Type 0 where
 
 -- answers, in proofs/Demand1.antt. Exactly when each refusal applies: text-exactly and its like (docs/PROMISES.md)
 abbrev pub EveryCallAnswers : Type 0
-EveryCallAnswers = (r : Record) (call : Call) → Answers r call
+EveryCallAnswers = (r : Record) (call : Call) → EndsWell r call
 
 -- "Until it is added again a removed zone is never written to": it stays the empty zone, through any session and from any record. A refused addition does not add it.
 -- stays-empty and stays-removed, in proofs/Demand1.antt
@@ -282,17 +282,17 @@ SameEnd = (r : Record) (xs ys : List Call) → Rerouted after OtherRoad r xs ys 
 -- ---- the card that stores the first command of a session and only acknowledges later ones
 
 -- "A done write sets exactly the figures of its group in its zone" (document 01), and no other zone is touched
-pub record Stored (before : Record) (n : ℕ) (figures : Figures) (after : Record) : Type 0 where
+pub record SetsOnly (before : Record) (n : ℕ) (figures : Figures) (after : Record) : Type 0 where
   pub sets : SetsFigures (zoneAt before n) figures (zoneAt after n)
   pub others : (m : ℕ) → (m ≡ n → ⊥) → zoneAt after m ≡ zoneAt before m
 
 -- whichever way it came, where it is answered as done
 pub record WriteStored (before : Record) (n : ℕ) (figures : Figures) (room : List ℕ) : Type 0 where
-  pub applied : Done before (quiet (apply n (Write figures))) → Stored before n figures (after before (quiet (apply n (Write figures))))
+  pub applied : Done before (quiet (apply n (Write figures))) → SetsOnly before n figures (after before (quiet (apply n (Write figures))))
   pub as-line : carriesCommand textRoad (Write figures) ≡ true → Done before (inRoom (text n (lineOf (Write figures))) room)
-      → Stored before n figures (after before (inRoom (text n (lineOf (Write figures))) room))
+      → SetsOnly before n figures (after before (inRoom (text n (lineOf (Write figures))) room))
   pub as-frame : Present before n → carriesCommand frameRoad (Write figures) ≡ true → Done before (inRoom (frame (frameOf (zoneAt before n .address) (Write figures))) room)
-      → Stored before n figures (after before (inRoom (frame (frameOf (zoneAt before n .address) (Write figures))) room))
+      → SetsOnly before n figures (after before (inRoom (frame (frameOf (zoneAt before n .address) (Write figures))) room))
 
 -- whatever came before: "every step starts from the record just handed back" (document 01). every-write-is-stored, in proofs/Useless.antt
 abbrev pub EveryWriteIsStored : Type 0

@@ -1,4 +1,3 @@
 pub mod Choices
-pub mod Made
-pub mod Row
+pub mod Layouts
 pub mod Room

@@ -1,5 +1,6 @@
 pub mod Tests
 pub mod Groups
 pub mod Table
+pub mod Made
 pub mod Written
 pub mod Sound

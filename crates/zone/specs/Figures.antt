@@ -2,11 +2,12 @@
 use Prim.Native.Nat.{ℕ}
 use mathlib.Core.Bool.{Bool}
 use mathlib.Core.List.{List, [], _∷_}
+use lib.ListN.{getD}
 use Rattle.zone.specs.declared.figures.Group.{Group}
 use Rattle.zone.specs.declared.figures.Figures.{Figures}
 use Rattle.zone.specs.declared.figures.Figures.the-variants.{AhueDeadline, AhueWindow, HzbgLimit, RrueReference, SolwSetpoint}
 use Rattle.zone.specs.Lists.{within, isZero, every}
-use Rattle.zone.specs.Table.{Column, Form, deadline, window, hzbg, rrue, solw, row}
+use Rattle.zone.specs.Table.{Column, Form, deadline, window, hzbg, rrue, solw, layout}
 
 abbrev pub formOf : Figures → Form
 formOf (AhueDeadline f) = deadline
@@ -16,7 +17,7 @@ formOf (RrueReference f) = rrue
 formOf (SolwSetpoint f) = solw
 
 abbrev pub groupOf : Figures → Group
-groupOf figures = row (formOf figures) .group
+groupOf figures = layout (formOf figures) .group
 
 -- "Figures, in order"
 abbrev pub numbers : Figures → List ℕ
@@ -25,6 +26,14 @@ numbers (AhueWindow f) = f .flag ∷ f .lower ∷ f .upper ∷ f .begin ∷ f .e
 numbers (HzbgLimit f) = f .time ∷ []
 numbers (RrueReference f) = f .flag ∷ f .lower ∷ f .upper ∷ []
 numbers (SolwSetpoint f) = f .setpoint ∷ []
+
+-- and back: the figures of a form with those numbers (made-again and numbers-again, in proofs/Made.antt)
+abbrev pub made : Form → List ℕ → Figures
+made deadline ns = AhueDeadline (record { flag = getD ns 0 0; lower = getD ns 1 0; upper = getD ns 2 0; time = getD ns 3 0 })
+made window ns = AhueWindow (record { flag = getD ns 0 0; lower = getD ns 1 0; upper = getD ns 2 0; begin = getD ns 3 0; end = getD ns 4 0 })
+made hzbg ns = HzbgLimit (record { time = getD ns 0 0 })
+made rrue ns = RrueReference (record { flag = getD ns 0 0; lower = getD ns 1 0; upper = getD ns 2 0 })
+made solw ns = SolwSetpoint (record { setpoint = getD ns 0 0 })
 
 -- a column of the table with the number that stands in it
 pub record Entry : Type 0 where
@@ -38,7 +47,7 @@ entries (k ∷ ks) [] = []
 entries (k ∷ ks) (n ∷ ns) = record { column = k; number = n } ∷ entries ks ns
 
 abbrev pub entriesOf : Figures → List Entry
-entriesOf figures = entries (row (formOf figures) .columns) (numbers figures)
+entriesOf figures = entries (layout (formOf figures) .columns) (numbers figures)
 
 -- every figure lies in its range, in a zone of that temperature range. "In AHUE each figure is judged by its own range only": the others need no such rule
 unfoldable pub inRange : ℕ → Figures → Bool

@@ -34,7 +34,7 @@ column kind low high = record { kind = kind; lowest = low; highest = λ range. h
 abbrev pub setpoint : Column
 setpoint = record { kind = time; lowest = 0; highest = λ range. range }
 
-pub record GroupRow : Type 0 where
+pub record Layout : Type 0 where
   pub group : Group
   pub columns : List Column
 
@@ -43,17 +43,24 @@ pub data Form : Type 0 where
   deadline window hzbg rrue solw : Form
 
 -- "Group", "Figures, in order" and "Range"
-abbrev pub row : Form → GroupRow
+abbrev pub layout : Form → Layout
 -- a, lower, upper, time
-row deadline = record { group = Ahue; columns = column flag 0 1 ∷ column limit 5 99 ∷ column limit 5 99 ∷ column time 0 999 ∷ [] }
+layout deadline = record { group = Ahue; columns = column flag 0 1 ∷ column limit 5 99 ∷ column limit 5 99 ∷ column time 0 999 ∷ [] }
 -- a, lower, upper, begin, end
-row window = record { group = Ahue; columns = column flag 0 1 ∷ column limit 5 99 ∷ column limit 5 99 ∷ column time 0 998 ∷ column time 1 999 ∷ [] }
+layout window = record { group = Ahue; columns = column flag 0 1 ∷ column limit 5 99 ∷ column limit 5 99 ∷ column time 0 998 ∷ column time 1 999 ∷ [] }
 -- time
-row hzbg = record { group = Hzbg; columns = column time 0 999 ∷ [] }
+layout hzbg = record { group = Hzbg; columns = column time 0 999 ∷ [] }
 -- a, lower, upper
-row rrue = record { group = Rrue; columns = column flag 0 1 ∷ column limit 5 100 ∷ column limit 5 100 ∷ [] }
+layout rrue = record { group = Rrue; columns = column flag 0 1 ∷ column limit 5 100 ∷ column limit 5 100 ∷ [] }
 -- setpoint
-row solw = record { group = Solw; columns = setpoint ∷ [] }
+layout solw = record { group = Solw; columns = setpoint ∷ [] }
+
+-- the forms of a group, as the layouts have it (their-group, in proofs/Made.antt)
+abbrev pub formsOf : Group → List Form
+formsOf Ahue = deadline ∷ window ∷ []
+formsOf Hzbg = hzbg ∷ []
+formsOf Rrue = rrue ∷ []
+formsOf Solw = solw ∷ []
 
 -- "Index"
 abbrev pub index : Group → ℕ

@@ -1,5 +1,5 @@
 -- Each arm is the definition's clause of what was brought.
-use Rattle.card.proofs.Steps.{refused-judged}
+use Rattle.card.proofs.Inner.{refused-judged}
 use borrow.Author.Needs.{needs}
 use Rattle.card.proofs.judgements.heard.Statement.{statement}
 use Rattle.card.proofs.judgements.heard.Tie as tie

@@ -4,7 +4,7 @@ use native.Mathlib.Nat.{sub-zero}
 use denote.Ref.{now}
 use lib.ListN.{length, take}
 use lib.Seq.{length-take-le}
-use Rattle.journal.specs.Steps.{Worked}
+use Rattle.journal.specs.Inner.{Worked}
 use Rattle.journal.proofs.Texts.{fed-seen}
 use borrow.Author.Needs.{needs}
 use Rattle.journal.proofs.blocks.feed.Statement.{statement}

@@ -8,9 +8,9 @@ use lib.Seq.{length-take-le}
 use mathlib.Core.Logic.{⊎-elim}
 use Rattle.card.specs.Records.{sound, zoneAt, withZone}
 use Rattle.card.specs.Answers.{numberOf, valuesOf}
-use Rattle.card.specs.Steps.{afterBy}
+use Rattle.card.specs.Inner.{afterBy}
 use Rattle.journal.specs.Journal.{Yield, lineYields}
-use Rattle.journal.specs.Steps.{soughtOf, lookUp, outputOf}
+use Rattle.journal.specs.Inner.{soughtOf, lookUp, outputOf}
 use Rattle.journal.proofs.Judged.{unaltered, sound-kept, place-below, turn-yields}
 use Rattle.journal.proofs.Bounds.{eight-so-far}
 use Rattle.journal.proofs.Texts.{Ahead, ahead-all, ahead-turn, ahead-none, turn-ended, turn-begun, last-ended, last-begun, written-on, room-behind, fits-behind}

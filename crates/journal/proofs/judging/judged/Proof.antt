@@ -1,8 +1,8 @@
 -- Where the record is not sound every readable line is refused for that; else each arm is the definition's clause.
 use mathlib.Core.Path.{_≡_, _∙_}
 use mathlib.Core.Logic.{⊎-elim}
-use Rattle.card.specs.Steps.{judged, askAt}
-use Rattle.journal.specs.Steps.{entryJudged}
+use Rattle.card.specs.Inner.{judged, askAt}
+use Rattle.journal.specs.Inner.{entryJudged}
 use Rattle.journal.proofs.Judged.{unfit-judged}
 use borrow.Author.Needs.{needs}
 use Rattle.journal.proofs.judging.judged.Statement.{statement}

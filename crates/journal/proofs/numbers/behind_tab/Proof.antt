@@ -4,7 +4,7 @@ use denote.Ref.{now}
 use lib.ListN.{List·getD-eq-default}
 use borrow.Author.Tests.{ne-eqb}
 use borrow.Author.Needs.{needs}
-use Rattle.journal.specs.Steps.{numeralAt}
+use Rattle.journal.specs.Inner.{numeralAt}
 use Rattle.journal.proofs.Decimals.{numeral-found}
 use Rattle.journal.proofs.numbers.behind_tab.Statement.{statement}
 use Rattle.journal.proofs.numbers.behind_tab.Tie as tie

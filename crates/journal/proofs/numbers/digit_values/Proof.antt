@@ -1,6 +1,6 @@
 -- The table is the definition's, computed for each of the 256 bytes.
 use mathlib.Core.Path.{refl}
-use Rattle.journal.specs.Steps.{digitValues}
+use Rattle.journal.specs.Inner.{digitValues}
 use borrow.Author.Needs.{needs}
 use Rattle.journal.proofs.numbers.digit_values.Statement.{statement}
 use Rattle.journal.proofs.numbers.digit_values.Tie as tie

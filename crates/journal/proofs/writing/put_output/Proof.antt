@@ -5,7 +5,7 @@ use native.Mathlib.Omega.{arith}
 use lib.ListN.{length-set}
 use denote.Ref.{now}
 use Rattle.card.specs.Answers.{numberOf, valuesOf}
-use Rattle.journal.specs.Steps.{letterOf, replyOf, outputOf}
+use Rattle.journal.specs.Inner.{letterOf, replyOf, outputOf}
 use Rattle.journal.proofs.Outputs.{number-below, head-count, reply-count, output-put}
 use borrow.Author.Needs.{needs}
 use Rattle.journal.proofs.writing.put_output.Statement.{statement}

@@ -1,6 +1,6 @@
 -- The three figures are read in the rows' order; the first that is none spoils them.
 use mathlib.Core.Path.{sym, _∙_}
-use Rattle.line.specs.Steps.{watchedOf}
+use Rattle.line.specs.Inner.{watchedOf}
 use borrow.Author.Needs.{needs}
 use Rattle.line.proofs.reading.watched.Statement.{statement}
 use Rattle.line.proofs.reading.watched.Tie as tie

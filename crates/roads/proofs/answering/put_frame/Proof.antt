@@ -1,6 +1,6 @@
 -- Each arm puts the definition's reply to its answer.
 use Rattle.roads.specs.Acknowledgements.{frameReply}
-use Rattle.roads.proofs.Answers.{refused-frame}
+use Rattle.roads.proofs.Seen.{refused-frame}
 use borrow.Author.Needs.{needs}
 use Rattle.roads.proofs.answering.put_frame.Statement.{statement}
 use Rattle.roads.proofs.answering.put_frame.Tie as tie

@@ -1,6 +1,6 @@
 -- Each arm puts the definition's reply to its answer.
 use Rattle.roads.specs.Acknowledgements.{textReply}
-use Rattle.roads.proofs.Answers.{refused-text}
+use Rattle.roads.proofs.Seen.{refused-text}
 use borrow.Author.Needs.{needs}
 use Rattle.roads.proofs.answering.put_text.Statement.{statement}
 use Rattle.roads.proofs.answering.put_text.Tie as tie

@@ -2,10 +2,10 @@
 use mathlib.Core.Path.{ap, _∙_}
 use denote.Ref.{now}
 use borrow.Author.Tests.{lt-ltb}
-use Rattle.card.specs.Steps.{askOf}
+use Rattle.card.specs.Inner.{askOf}
 use Rattle.roads.specs.Acknowledgements.{textReply}
 use Rattle.roads.specs.Calls.{answerText}
-use Rattle.roads.specs.Steps.{askedBy}
+use Rattle.roads.specs.Inner.{askedBy}
 use Rattle.roads.proofs.CallLaws.{text-answer}
 use borrow.Author.Needs.{needs}
 use Rattle.roads.proofs.calls.text.Statement.{statement}

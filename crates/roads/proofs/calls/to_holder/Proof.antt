@@ -1,7 +1,7 @@
 -- By what was found: nobody, in silence; or the zone that is asked, whose reply is put into the room.
 use mathlib.Core.Path.{sym, _∙_}
 use denote.Ref.{now}
-use Rattle.roads.specs.Steps.{frameAt}
+use Rattle.roads.specs.Inner.{frameAt}
 use Rattle.roads.proofs.CallLaws.{frame-answer}
 use borrow.Author.Needs.{needs}
 use Rattle.roads.proofs.calls.to_holder.Statement.{statement}

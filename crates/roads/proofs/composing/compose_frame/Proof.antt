@@ -4,7 +4,7 @@ use borrow.Author.Tests.{lt-ltb, le-ltb, le-leb, lt-leb}
 use Rattle.wire.specs.Road.{carriesCommand}
 use Rattle.frame.specs.Frame.{frameOf}
 use Rattle.roads.specs.Calls.{composedFrame}
-use Rattle.roads.proofs.Answers.{said-of}
+use Rattle.roads.proofs.Seen.{said-of}
 use borrow.Author.Needs.{needs}
 use Rattle.roads.proofs.composing.compose_frame.Statement.{statement}
 use Rattle.roads.proofs.composing.compose_frame.Tie as tie

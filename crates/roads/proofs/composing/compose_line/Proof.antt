@@ -4,7 +4,7 @@ use borrow.Author.Tests.{lt-ltb, le-ltb}
 use Rattle.wire.specs.Road.{carriesCommand}
 use Rattle.line.specs.Line.{lineOf}
 use Rattle.roads.specs.Calls.{composedLine}
-use Rattle.roads.proofs.Answers.{said-of}
+use Rattle.roads.proofs.Seen.{said-of}
 use borrow.Author.Needs.{needs}
 use Rattle.roads.proofs.composing.compose_line.Statement.{statement}
 use Rattle.roads.proofs.composing.compose_line.Tie as tie

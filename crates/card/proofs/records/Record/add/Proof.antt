@@ -3,8 +3,8 @@ use mathlib.Core.Path.{ap, _∙_}
 use borrow.Author.Tests.{le-leb, lt-leb}
 use Rattle.card.specs.Calls.{addAt, addOf}
 use Rattle.card.specs.Records.{zoneAt}
-use Rattle.card.specs.Steps.{stored}
-use Rattle.card.proofs.Steps.{stored-settled}
+use Rattle.card.specs.Inner.{stored}
+use Rattle.card.proofs.Inner.{stored-settled}
 use borrow.Author.Needs.{needs}
 use Rattle.card.proofs.records.Record.add.Statement.{statement}
 use Rattle.card.proofs.records.Record.add.Tie as tie

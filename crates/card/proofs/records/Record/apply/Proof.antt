@@ -1,6 +1,6 @@
 -- A command that is known is asked as it is.
 use Rattle.card.specs.Calls.{applyOf}
-use Rattle.card.specs.Steps.{askOf}
+use Rattle.card.specs.Inner.{askOf}
 use borrow.Author.Needs.{needs}
 use Rattle.card.proofs.records.Record.apply.Statement.{statement}
 use Rattle.card.proofs.records.Record.apply.Tie as tie

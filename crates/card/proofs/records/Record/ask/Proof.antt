@@ -1,8 +1,8 @@
 -- Where the zone is reached it decides, and its decision is stored; where not, the call is refused for that reason.
 use mathlib.Core.Path.{sym, _∙_}
 use Rattle.card.specs.Records.{zoneAt}
-use Rattle.card.specs.Steps.{verdictSeen, askAt, askOf}
-use Rattle.card.proofs.Steps.{stopped, reaches, at-zone}
+use Rattle.card.specs.Inner.{verdictSeen, askAt, askOf}
+use Rattle.card.proofs.Inner.{stopped, reaches, at-zone}
 use borrow.Author.Needs.{needs}
 use Rattle.card.proofs.records.Record.ask.Statement.{statement}
 use Rattle.card.proofs.records.Record.ask.Tie as tie

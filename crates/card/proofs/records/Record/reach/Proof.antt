@@ -1,5 +1,5 @@
 -- Each return is the definition's first test that holds; the last has passed both.
-use Rattle.card.specs.Steps.{reachOf}
+use Rattle.card.specs.Inner.{reachOf}
 use borrow.Author.Tests.{le-leb, lt-leb}
 use borrow.Author.Needs.{needs}
 use Rattle.card.proofs.records.Record.reach.Statement.{statement}

@@ -2,8 +2,8 @@
 use mathlib.Core.Path.{refl, sym, _∙_}
 use Rattle.card.specs.declared.judgements.Verdict.the-variants.{Removes}
 use Rattle.card.specs.Calls.{removeAt, removeOf}
-use Rattle.card.specs.Steps.{verdictSeen}
-use Rattle.card.proofs.Steps.{stopped, reaches, at-zone}
+use Rattle.card.specs.Inner.{verdictSeen}
+use Rattle.card.proofs.Inner.{stopped, reaches, at-zone}
 use borrow.Author.Needs.{needs}
 use Rattle.card.proofs.records.Record.remove.Statement.{statement}
 use Rattle.card.proofs.records.Record.remove.Tie as tie

@@ -2,8 +2,8 @@
 use mathlib.Core.Path.{sym, _∙_}
 use Rattle.card.specs.Records.{zoneAt}
 use Rattle.card.specs.Calls.{reportAt, reportOf}
-use Rattle.card.specs.Steps.{verdictSeen}
-use Rattle.card.proofs.Steps.{stopped, reaches, at-zone}
+use Rattle.card.specs.Inner.{verdictSeen}
+use Rattle.card.proofs.Inner.{stopped, reaches, at-zone}
 use borrow.Author.Needs.{needs}
 use Rattle.card.proofs.records.Record.report.Statement.{statement}
 use Rattle.card.proofs.records.Record.report.Tie as tie

@@ -8,12 +8,12 @@ use Rattle.card.specs.declared.answers.Refusal.the-variants.{NotSound, N
 use Rattle.card.specs.declared.answers.Answer.{Answer}
 use Rattle.card.specs.declared.answers.Answer.the-variants as answer
 use Rattle.card.specs.declared.judgements.Asked.{Asked}
-use Rattle.card.specs.declared.judgements.Asked.the-variants.{Known, Refused}
+use Rattle.card.specs.declared.judgements.Asked.the-variants.{Sent, Failed}
 use Rattle.card.specs.declared.judgements.Verdict.{Verdict}
 use Rattle.card.specs.declared.judgements.Verdict.the-variants.{Refuses, Tells, Writes, Reports, Adds, Removes}
 use Rattle.card.specs.declared.records.Record.{Record}
 use Rattle.card.specs.declared.records.Reached.{Reached}
-use Rattle.card.specs.declared.records.Reached.the-variants.{At, Stopped}
+use Rattle.card.specs.declared.records.Reached.the-variants.{There, Stopped}
 use Rattle.card.specs.Answers.{Result, refusalNumber, numberOf, valuesOf}
 use Rattle.card.specs.Refusals.{_gives_, settled}
 use Rattle.card.specs.Records.{zoneAt, withZone, sound, noZone}
@@ -21,7 +21,7 @@ use Rattle.card.specs.Calls.{Judgement, atZone, commandAt}
 
 -- the zone that a call is to work on, or the refusal that the call ends with
 unfoldable pub reachOf : Record → ℕ → Reached
-reachOf r n = cond (not (sound r)) (Stopped NotSound) (cond (noZone r n) (Stopped NoZone) (At (zoneAt r n)))
+reachOf r n = cond (not (sound r)) (Stopped NotSound) (cond (noZone r n) (Stopped NoZone) (There (zoneAt r n)))
 
 -- ---- what a zone decides
 
@@ -63,8 +63,8 @@ stored r n decided = record { number = decided .number; values = decided .values
 
 -- a command that came by a road, or the refusal that its bytes met with before it reached the zone
 abbrev pub askAt : Zone → Asked → Judgement
-askAt z (Known command) = commandAt z command
-askAt z (Refused why) = record { rows = (true gives refusalNumber why) ∷ []; values = []; after = z }
+askAt z (Sent command) = commandAt z command
+askAt z (Failed why) = record { rows = (true gives refusalNumber why) ∷ []; values = []; after = z }
 
 unfoldable pub askOf : Record → ℕ → Asked → Result Record
 askOf r n asked = atZone r n (askAt (zoneAt r n) asked)

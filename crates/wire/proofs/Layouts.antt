@@ -12,16 +12,16 @@ use Rattle.zone.specs.declared.figures.Figures.{Figures}
 use Rattle.zone.specs.declared.figures.Command.{Command}
 use Rattle.zone.specs.declared.figures.Command.the-variants.{Read, Write}
 use Rattle.zone.specs.Lists.{every, total}
-use Rattle.zone.specs.Table.{Kind, Column, Form, deadline, window, hzbg, rrue, solw, row}
-use Rattle.zone.specs.Figures.{formOf, groupOf, numbers, entries}
+use Rattle.zone.specs.Table.{Kind, Column, Form, deadline, window, hzbg, rrue, solw, layout, formsOf}
+use Rattle.zone.specs.Figures.{formOf, groupOf, numbers, entries, made}
 use Rattle.zone.proofs.Table.{as-many}
 use Rattle.zone.proofs.Tests.{both}
 use Rattle.wire.specs.declared.Figure.{Figure}
 use Rattle.wire.specs.declared.Figure.the-variants.{Value, Bad}
 use Rattle.wire.specs.declared.Parsed.the-variants.{Known}
-use Rattle.wire.specs.Road.{Road, carried, carries, inOrder, figureBytes, lengthOf, Numbers, are, none, join, numbersAt, made, written, formRead, writeRead, formsOf, commandRead}
+use Rattle.wire.specs.Road.{Road, carried, carries, inOrder, figureBytes, lengthOf, Numbers, are, none, join, numbersAt, readAs, formRead, writeRead, commandRead}
 use Rattle.wire.proofs.Choices.{by-cond, unknown-never, syntax-never}
-use Rattle.wire.proofs.Made.{made-again, form-again, entries-again, AllOf, their-group}
+use Rattle.zone.proofs.Made.{made-again, form-again, entries-again, AllOf, their-group}
 
 -- what a road has to say of a single figure. Ends tells what may stand behind a figure, Good which bytes are read at all
 pub record Lawful (road : Road) : Type 1 where
@@ -63,8 +63,8 @@ module _ (road : Road) (lawful : Lawful road) where
   pub form-reads : (f : Figures) (pre : List ℕ) → length pre ≡ road .head → carries road f ≡ true → formRead road (formOf f) (pre ++ figureBytes road f) ≡ Known (Write f)
   unfolding formRead carries
   form-reads f pre e h =
-      let read = row-reads (row (formOf f) .columns) (numbers f) pre (as-many f) h in
-      ap (written (formOf f)) (subst (λ (at : ℕ). numbersAt road (row (formOf f) .columns) (pre ++ figureBytes road f) at ≡ are (numbers f)) e read)
+      let read = row-reads (layout (formOf f) .columns) (numbers f) pre (as-many f) h in
+      ap (readAs (formOf f)) (subst (λ (at : ℕ). numbersAt road (layout (formOf f) .columns) (pre ++ figureBytes road f) at ≡ are (numbers f)) e read)
       ∙ ap (λ (g : Figures). Known (Write g)) (made-again f)
 
   bytes-size : (ks : List Column) (ns : List ℕ) → length ns ≡ length ks → length (inOrder road (entries ks ns)) ≡ total (λ k. road .width (k .kind)) ks
@@ -76,10 +76,10 @@ module _ (road : Road) (lawful : Lawful road) where
 
   -- the length of a write is its form's
   pub write-length : (f : Figures) (pre : List ℕ) → length pre ≡ road .head → length (pre ++ figureBytes road f) ≡ lengthOf road (formOf f)
-  write-length f pre e = length-append pre (figureBytes road f) ∙ rw (e, bytes-size (row (formOf f) .columns) (numbers f) (as-many f))
+  write-length f pre e = length-append pre (figureBytes road f) ∙ rw (e, bytes-size (layout (formOf f) .columns) (numbers f) (as-many f))
 
   -- a list of a form's length is read as that form
-  form-chosen : (form : Form) (l : List ℕ) → length l ≡ lengthOf road form → writeRead road (formsOf (row form .group)) l ≡ formRead road form l
+  form-chosen : (form : Form) (l : List ℕ) → length l ≡ lengthOf road form → writeRead road (formsOf (layout form .group)) l ≡ formRead road form l
   unfolding writeRead
   form-chosen deadline l e = rw (eq-eqb (length l) (lengthOf road deadline) e)
   form-chosen window l e = rw (e, lawful .forms, eq-eqb (lengthOf road window) (lengthOf road window) refl)
@@ -100,7 +100,7 @@ module _ (road : Road) (lawful : Lawful road) where
   -- ---- and back
 
   -- a row that was read: its bytes stand there, and the road carries its numbers
-  record Row (ks : List Column) (ns found : List ℕ) : Type 0 where
+  record Laid (ks : List Column) (ns found : List ℕ) : Type 0 where
     bytes : found ≡ inOrder road (entries ks ns)
     fits : every (carried road) (entries ks ns) ≡ true
     count : length ns ≡ length ks
@@ -110,13 +110,13 @@ module _ (road : Road) (lawful : Lawful road) where
   by-join (Value n) none ns h f = absurd (let z : _≡_ {A = ℕ} 0 1 = cc in omega arith)
   by-join (Value n) (are ms) ns h f = f n ms refl refl cc
 
-  row-only : (ks : List Column) (at : ℕ) (l ns : List ℕ) → lawful .Good l → numbersAt road ks l at ≡ are ns → length l ≡ at + total (λ k. road .width (k .kind)) ks → Row ks ns (drop at l)
+  row-only : (ks : List Column) (at : ℕ) (l ns : List ℕ) → lawful .Good l → numbersAt road ks l at ≡ are ns → length l ≡ at + total (λ k. road .width (k .kind)) ks → Laid ks ns (drop at l)
   row-only [] at l ns good h e = let z : ns ≡ [] = cc in rw z (record { bytes = drop-of-length-le l {i = at} (omega arith); fits = refl; count = refl })
   row-only (k ∷ ks) at l ns good h e =
       by-join (road .foundAt (k .kind) l at) (numbersAt road ks l (at + road .width (k .kind))) ns h
       (λ n ms x r z. one-more n ms x z (row-only ks (at + road .width (k .kind)) l ms good r (omega arith)))
     where
-      one-more : (n : ℕ) (ms : List ℕ) → road .foundAt (k .kind) l at ≡ Value n → ns ≡ n ∷ ms → Row ks ms (drop (at + road .width (k .kind)) l) → Row (k ∷ ks) ns (drop at l)
+      one-more : (n : ℕ) (ms : List ℕ) → road .foundAt (k .kind) l at ≡ Value n → ns ≡ n ∷ ms → Laid ks ms (drop (at + road .width (k .kind)) l) → Laid (k ∷ ks) ns (drop at l)
       one-more n ms x z more =
           let fig = lawful .back (k .kind) n l at good (omega arith) x in
           rw z
@@ -126,23 +126,23 @@ module _ (road : Road) (lawful : Lawful road) where
             count = ap suc (more .count);
           })
 
-  by-written : {R : Type 0} (form : Form) (r : Numbers) (c : Command) → written form r ≡ Known c → ((ns : List ℕ) → r ≡ are ns → c ≡ Write (made form ns) → R) → R
-  by-written form none c h k = syntax-never h
-  by-written form (are ns) c h k = k ns refl cc
+  by-numbers : {R : Type 0} (form : Form) (r : Numbers) (c : Command) → readAs form r ≡ Known c → ((ns : List ℕ) → r ≡ are ns → c ≡ Write (made form ns) → R) → R
+  by-numbers form none c h k = syntax-never h
+  by-numbers form (are ns) c h k = k ns refl cc
 
   -- what stands where a command was read: a read is a head alone, and a write its figures, which the road carries
   abbrev pub Stands : ℕ → Group → List ℕ → Command → Type 0
   Stands mark group l (Read g) = (mark ≡ road .reads) × (g ≡ group) × (length l ≡ road .head)
   Stands mark group l (Write f) = (mark ≡ road .writes) × (groupOf f ≡ group) × (drop (road .head) l ≡ figureBytes road f) × (carries road f ≡ true)
 
-  form-only : (mark : ℕ) (form : Form) (l : List ℕ) (c : Command) → lawful .Good l → mark ≡ road .writes → length l ≡ lengthOf road form → formRead road form l ≡ Known c → Stands mark (row form .group) l c
+  form-only : (mark : ℕ) (form : Form) (l : List ℕ) (c : Command) → lawful .Good l → mark ≡ road .writes → length l ≡ lengthOf road form → formRead road form l ≡ Known c → Stands mark (layout form .group) l c
   unfolding formRead carries
   form-only mark form l c good m e h =
-      by-written form (numbersAt road (row form .columns) l (road .head)) c h
+      by-numbers form (numbersAt road (layout form .columns) l (road .head)) c h
       (λ ns r w.
-      let found = row-only (row form .columns) (road .head) l ns good r e in
+      let found = row-only (layout form .columns) (road .head) l ns good r e in
       rw w
-      (m, ap (λ (x : Form). row x .group) (form-again form ns), rw (entries-again form ns (found .count)) (found .bytes), rw (entries-again form ns (found .count)) (found .fits)))
+      (m, ap (λ (x : Form). layout x .group) (form-again form ns), rw (entries-again form ns (found .count)) (found .bytes), rw (entries-again form ns (found .count)) (found .fits)))
 
   forms-only : (mark : ℕ) (forms : List Form) (group : Group) (l : List ℕ) (c : Command) → lawful .Good l → mark ≡ road .writes → AllOf group forms → writeRead road forms l ≡ Known c → Stands mark group l c
   unfolding writeRead

@@ -14,15 +14,15 @@ use Rattle.zone.specs.Zones.{emptyZone}
 use Rattle.zone.proofs.Tests.{neither}
 use Rattle.card.specs.declared.answers.Refusal.{Refusal}
 use Rattle.card.specs.declared.answers.Refusal.the-variants.{NotSound, NoZone}
-use Rattle.card.specs.declared.judgements.Asked.the-variants.{Refused}
+use Rattle.card.specs.declared.judgements.Asked.the-variants.{Failed}
 use Rattle.card.specs.declared.records.Reached.{Reached}
-use Rattle.card.specs.declared.records.Reached.the-variants.{At, Stopped}
+use Rattle.card.specs.declared.records.Reached.the-variants.{There, Stopped}
 use Rattle.card.specs.declared.records.Record.{Record}
 use Rattle.card.specs.Answers.{Result, refusalNumber}
 use Rattle.card.specs.Refusals.{Row, first, settled, _gives_}
 use Rattle.card.specs.Records.{zoneAt, withZone, sound, noZone}
 use Rattle.card.specs.Calls.{Judgement, atZone}
-use Rattle.card.specs.Steps.{reachOf, judged, stored, askAt}
+use Rattle.card.specs.Inner.{reachOf, judged, stored, askAt}
 
 -- to store the zone that stands there already is to store nothing
 pub same-zone : (r : Record) (n : ℕ) → withZone r n (zoneAt r n) ≡ r
@@ -41,7 +41,7 @@ stored-settled r n rows values z = by-done (isZero (first rows))
     by-done false = ap (λ (x : Record). record { number = first rows; values = []; after = x }) (same-zone r n)
 
 -- a zone that is asked what was refused already leaves everything as it is
-pub refused-judged : (z : Zone) (why : Refusal) → record { number = refusalNumber why; values = []; after = z } ≡ judged z (askAt z (Refused why))
+pub refused-judged : (z : Zone) (why : Refusal) → record { number = refusalNumber why; values = []; after = z } ≡ judged z (askAt z (Failed why))
 refused-judged z why = by-done (isZero (refusalNumber why))
   where
     by-done : (done : Bool)
@@ -53,7 +53,7 @@ refused-judged z why = by-done (isZero (refusalNumber why))
 
 -- what stands at zone n of r, by the tests of soundness and of the zone
 abbrev reachBy : Bool → Bool → Record → ℕ → Reached
-reachBy s t r n = cond (not s) (Stopped NotSound) (cond t (Stopped NoZone) (At (zoneAt r n)))
+reachBy s t r n = cond (not s) (Stopped NotSound) (cond t (Stopped NoZone) (There (zoneAt r n)))
 
 -- where nothing is reached, the call is refused for that reason, whatever it asks
 pub stopped : (r : Record) (n : ℕ) (why : Refusal) (j : Judgement) → reachOf r n ≡ Stopped why
@@ -74,17 +74,17 @@ pub record Reaches (r : Record) (n : ℕ) (z : Zone) : Type 0 where
   pub sound-record : sound r ≡ true
   pub there : noZone r n ≡ false
 
-pub reaches : (r : Record) (n : ℕ) (z : Zone) → reachOf r n ≡ At z → Reaches r n z
+pub reaches : (r : Record) (n : ℕ) (z : Zone) → reachOf r n ≡ There z → Reaches r n z
 unfolding reachOf
 reaches r n z e = by-tests (sound r) (noZone r n) refl refl e
   where
-    by-tests : (s t : Bool) → sound r ≡ s → noZone r n ≡ t → reachBy s t r n ≡ At z → Reaches r n z
+    by-tests : (s t : Bool) → sound r ≡ s → noZone r n ≡ t → reachBy s t r n ≡ There z → Reaches r n z
     by-tests false t p q e = absurd (let z : _≡_ {A = ℕ} 0 1 = cc in omega arith)
     by-tests true true p q e = absurd (let z : _≡_ {A = ℕ} 0 1 = cc in omega arith)
     by-tests true false p q e = record { zone = cc; below = leb-false 16 n (neither (leb 16 n) (not (zoneAt r n .present)) q .0); sound-record = p; there = q }
 
 -- where the zone is reached, the call comes to what the zone decides
-pub at-zone : (r : Record) (n : ℕ) (z : Zone) (seen : Zone → Result Zone) (j : Zone → Judgement) → reachOf r n ≡ At z → seen z ≡ judged z (j z)
+pub at-zone : (r : Record) (n : ℕ) (z : Zone) (seen : Zone → Result Zone) (j : Zone → Judgement) → reachOf r n ≡ There z → seen z ≡ judged z (j z)
     → stored r n (seen (zoneAt r n)) ≡ atZone r n (j (zoneAt r n))
 at-zone r n z seen j e h =
     let k = reaches r n z e in

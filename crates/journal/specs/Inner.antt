@@ -11,25 +11,25 @@ use Rattle.zone.specs.declared.zones.Zone.{Zone}
 use Rattle.card.specs.declared.answers.Refusal.{Refusal}
 use Rattle.card.specs.declared.answers.Refusal.the-variants as refusal
 use Rattle.card.specs.declared.judgements.Asked.{Asked}
-use Rattle.card.specs.declared.judgements.Asked.the-variants.{Refused}
+use Rattle.card.specs.declared.judgements.Asked.the-variants.{Failed}
 use Rattle.card.specs.declared.records.Record.{Record}
 use Rattle.card.specs.declared.records.Found.{Found}
 use Rattle.card.specs.declared.records.Found.the-variants.{At, Nowhere}
 use Rattle.card.specs.Refusals.{Row, _gives_}
 use Rattle.card.specs.Records.{findOf}
 use Rattle.card.specs.Calls.{Judgement, addAt, removeAt, reportAt}
-use Rattle.card.specs.Steps.{askAt}
+use Rattle.card.specs.Inner.{askAt}
 use Rattle.wire.specs.declared.Figure.{Figure}
 use Rattle.wire.specs.declared.Figure.the-variants.{Value, Bad}
 use Rattle.wire.specs.declared.Parsed.{Parsed}
 use Rattle.wire.specs.Road.{Numbers, are, none}
 use Rattle.line.specs.Line.{lineRead}
 use Rattle.frame.specs.declared.reading.Framed.{Framed}
-use Rattle.frame.specs.declared.reading.Framed.the-variants.{NoFrame, Checksum, Request}
+use Rattle.frame.specs.declared.reading.Framed.the-variants.{NoFrame, BadSum, Request}
 use Rattle.frame.specs.Frame.{frameRead}
 use Rattle.roads.specs.Acknowledgements.{textReply, frameReply}
 use Rattle.roads.specs.Calls.{isNowhere, zoneFound}
-use Rattle.roads.specs.Steps.{askedBy}
+use Rattle.roads.specs.Inner.{askedBy}
 use Rattle.journal.specs.declared.numbers.Numeral.{Numeral}
 use Rattle.journal.specs.declared.numbers.Numeral.the-variants as numeral
 use Rattle.journal.specs.declared.numbers.Count.{Count}
@@ -100,7 +100,7 @@ entryOf unreadable = Unreadable
 -- the address that is to be looked up
 abbrev pub frameSought : Framed → Sought
 frameSought NoFrame = Nobody
-frameSought (Checksum address) = Address address
+frameSought (BadSum address) = Address address
 frameSought (Request address parsed) = Address address
 
 abbrev pub soughtOf : Entry → Sought
@@ -137,15 +137,15 @@ missing z n = leb 16 n || not (z .present)
 
 -- what a line brings to a zone, and what a frame brings to the zone that holds its address
 abbrev pub askedOf : Zone → ℕ → Parsed → Asked
-askedOf z n parsed = cond (missing z n) (Refused refusal.NoZone) (askedBy parsed)
+askedOf z n parsed = cond (missing z n) (Failed refusal.NoZone) (askedBy parsed)
 
 abbrev pub askedOfHolder : Found → Asked → Asked
 askedOfHolder (At n) asked = asked
-askedOfHolder Nowhere asked = Refused refusal.NobodyHolds
+askedOfHolder Nowhere asked = Failed refusal.NobodyHolds
 
 abbrev pub askedFramed : Framed → Found → Asked
-askedFramed NoFrame found = Refused refusal.NoFrame
-askedFramed (Checksum address) found = askedOfHolder found (Refused refusal.Checksum)
+askedFramed NoFrame found = Failed refusal.NoFrame
+askedFramed (BadSum address) found = askedOfHolder found (Failed refusal.Checksum)
 askedFramed (Request address parsed) found = askedOfHolder found (askedBy parsed)
 
 -- what an entry comes to at the zone that is looked at; `fit` says that the record is sound
@@ -155,7 +155,7 @@ entryJudged fit (Remove n) found z = unless ((not fit gives 2) ∷ (missing z n 
 entryJudged fit (Report n state actual) found z = unless ((not fit gives 2) ∷ (missing z n gives 3) ∷ []) (reportAt z state actual)
 entryJudged fit (Text n parsed) found z = unless ((not fit gives 2) ∷ []) (askAt z (askedOf z n parsed))
 entryJudged fit (Frame framed) found z = unless ((not fit gives 2) ∷ []) (askAt z (askedFramed framed found))
-entryJudged fit Unreadable found z = askAt z (Refused refusal.Unreadable)
+entryJudged fit Unreadable found z = askAt z (Failed refusal.Unreadable)
 
 -- how an entry is refused where the record is not sound
 abbrev pub unfitOf : Entry → Refusal
@@ -178,7 +178,7 @@ letterOf Unreadable = E
 
 abbrev pub frameReplied : Framed → ℕ → List Figures → List ℕ
 frameReplied NoFrame number values = []
-frameReplied (Checksum address) number values = inHex (frameReply address number values)
+frameReplied (BadSum address) number values = inHex (frameReply address number values)
 frameReplied (Request address parsed) number values = inHex (frameReply address number values)
 
 abbrev pub replyOf : Entry → ℕ → List Figures → List ℕ

@@ -11,16 +11,16 @@ use Rattle.card.specs.declared.records.Record.{Record}
 use Rattle.card.specs.declared.records.Found.{Found}
 use Rattle.card.specs.declared.records.Found.the-variants.{At, Nowhere}
 use Rattle.card.specs.Records.{sound, findOf}
-use Rattle.card.specs.Steps.{askOf}
+use Rattle.card.specs.Inner.{askOf}
 use Rattle.wire.specs.declared.Parsed.{Parsed}
 use Rattle.wire.specs.declared.Parsed.the-variants.{Known, Unknown, Syntax}
 use Rattle.roads.specs.declared.calls.Replied.{Replied}
 use Rattle.roads.specs.Calls.{Answered, repliedSeen, inFrameReply}
 
 abbrev pub askedBy : Parsed → Asked
-askedBy (Known command) = asked.Known command
-askedBy Unknown = asked.Refused refusal.Unknown
-askedBy Syntax = asked.Refused refusal.Syntax
+askedBy (Known command) = asked.Sent command
+askedBy Unknown = asked.Failed refusal.Unknown
+askedBy Syntax = asked.Failed refusal.Syntax
 
 -- a refusal without a reply: 2 where the record is not sound, else the one given
 abbrev pub silentOf : Record → Refusal → Replied
