@@ -46,14 +46,14 @@ zoneRows r n j = (not (sound r) gives 2) ∷ (noZone r n gives 3) ∷ j .rows
 abbrev pub atZone : Record → ℕ → Judgement → Result Record
 atZone r n j = settled r (zoneRows r n j) (j .values) (withZone r n (j .after))
 
--- "Removing: 2, 3"; "Removing empties the zone"
+-- "Removing: 2, 3", both of which stand in zoneRows; "Removing empties the zone"
 abbrev pub removeAt : Judgement
 removeAt = record { rows = []; values = []; after = emptyZone }
 
 unfoldable pub removeOf : Record → ℕ → Result Record
 removeOf r n = atZone r n removeAt
 
--- "Reporting state and actual value: 2, 3, 9"; 9 "for a state number above 3 or an actual value above 999"
+-- "Reporting state and actual value: 2, 3, 9", the first two in zoneRows; 9 "for a state number above 3 or an actual value above 999"
 abbrev pub reportAt : Zone → ℕ → ℕ → Judgement
 reportAt z state actual = record {
   rows = (not (leb state 3 && actualInRange actual) gives 9) ∷ [];
@@ -64,7 +64,7 @@ reportAt z state actual = record {
 unfoldable pub reportOf : Record → ℕ → ℕ → ℕ → Result Record
 reportOf r n state actual = atZone r n (reportAt (zoneAt r n) state actual)
 
--- a write: 2, 3, 9, 10, which is what "Text: 1, 2, 3, 7, 8, 9, 10" leaves where the command is known
+-- a write: 2, 3 (in zoneRows), 9, 10, which is what "Text: 1, 2, 3, 7, 8, 9, 10" leaves where the command is known
 abbrev pub writeAt : Zone → Figures → Judgement
 writeAt z figures = record {
   rows = (not (inRange (z .range) figures) gives 9) ∷ (locks (z .status .state) (groupOf figures) gives 10) ∷ [];
@@ -72,7 +72,7 @@ writeAt z figures = record {
   after = withFigures z figures;
 }
 
--- a read: 2, 3. "Reads are permitted in every state"; "a read alters nothing"
+-- a read: 2, 3, in zoneRows. "Reads are permitted in every state"; "a read alters nothing"
 abbrev pub commandAt : Zone → Command → Judgement
 commandAt z (Read group) = record { rows = []; values = figuresOf z group ∷ []; after = z }
 commandAt z (Write figures) = writeAt z figures

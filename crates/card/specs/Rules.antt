@@ -56,7 +56,7 @@ reportOrder = 2 ∷ 3 ∷ 9 ∷ []
 abbrev pub applyOrder : List ℕ
 applyOrder = 2 ∷ 3 ∷ 9 ∷ 10 ∷ []
 
--- The refusals stand in the printed order: all of it or, where what is asked cannot be refused for the rest, its beginning.
+-- The refusals stand in the printed order: all of it, or its beginning.
 -- add-order, remove-order, report-order, apply-order and, of a write, write-order, in proofs/Kept.antt
 abbrev pub InOrder : List Row → List ℕ → Type 0
 InOrder rows printed = numbersIn rows ≡ take (length rows) printed

@@ -108,7 +108,7 @@ indexedRead (Is group) body = commandRead frameRoad (getD body 1 0) group body
 unfoldable pub bodyRead : List ℕ → Parsed
 bodyRead body = indexedRead (groupIndexed (getD body 2 0)) body
 
--- what the codec hands on of a frame: a step on the way, which no call's definition cites
+-- what the codec hands on of a frame: no frame, a sum that differs, or a request to an address. The call's definition has the same tests as rows of its own; the demands speak of what is read back in these words
 unfoldable pub frameRead : List ℕ → Framed
 frameRead f =
     cond (shaped f)

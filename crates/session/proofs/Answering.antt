@@ -15,16 +15,16 @@ use Rattle.card.specs.Answers.{Result}
 use Rattle.card.specs.Refusals.{Row, first, settled}
 use Rattle.card.specs.Records.{zoneAt, withZone}
 use Rattle.card.specs.Calls.{addOf, removeOf, reportOf, applyOf}
-use Rattle.card.specs.Rules.{numbersIn, InOrder, Keeps}
-use Rattle.card.proofs.Kept.{add-order, remove-order, report-order, apply-order, add-keeps, remove-keeps, report-keeps, apply-keeps}
+use Rattle.card.specs.Rules.{InOrder, Keeps, ExactlyWhen}
+use Rattle.card.proofs.Kept.{add-order, remove-order, report-order, apply-order, write-order, add-exactly, remove-exactly, report-exactly, apply-exactly, add-keeps, remove-keeps, report-keeps, apply-keeps}
 use Rattle.wire.specs.Road.{carriesCommand}
 use Rattle.line.specs.Line.{textRoad, lineRead}
 use Rattle.frame.specs.Frame.{frameRoad, addressIn, bodyIn, bodyRead}
 use Rattle.roads.specs.Acknowledgements.{textRefusal, textReply, frameRefusal, frameReply}
 use Rattle.roads.specs.Calls.{Answered, said, parsedAt, textRows, inTextReply, answerText, zoneFound, holder, frameRows, inFrameReply, answerFrame, composeRows, composedLine, composedFrame}
-use Rattle.roads.proofs.Exactly.{text-order, frame-order, compose-order}
+use Rattle.roads.proofs.Exactly.{text-order, frame-order, compose-order, write-line-order, write-frame-order, text-exactly, frame-exactly, compose-line-exactly, compose-frame-exactly}
 use Rattle.session.specs.Sessions.{text, frame, composeLine, composeFrame, Quiet, add, remove, report, apply, Call, inRoom, quiet, resultOf, answerTo, Done}
-use Rattle.session.specs.Demands.{order, refusals, among, lent, fixed, EveryCallAnswers}
+use Rattle.session.specs.Demands.{order, refusals, among, lent, fixed, EveryCallAnswers, WritesHaveTheWholeOrder}
 
 -- ---- the first in the printed order
 
@@ -70,6 +70,19 @@ first-given r (quiet (add n a range)) = refl
 first-given r (quiet (remove n)) = refl
 first-given r (quiet (report n state actual)) = refl
 first-given r (quiet (apply n c)) = refl
+
+exactly : (r : Record) (call : Call) → ExactlyWhen (refusals r call) (answerTo r call .said .number)
+exactly r (inRoom (text n line) room) = text-exactly r n line room
+exactly r (inRoom (frame bytes) room) = frame-exactly r bytes room
+exactly r (inRoom (composeLine c) room) = compose-line-exactly c room
+exactly r (inRoom (composeFrame a c) room) = compose-frame-exactly a c room
+exactly r (quiet (add n a range)) = add-exactly r n a range
+exactly r (quiet (remove n)) = remove-exactly r n
+exactly r (quiet (report n state actual)) = report-exactly r n state actual
+exactly r (quiet (apply n c)) = apply-exactly r n c
+
+pub whole-order : WritesHaveTheWholeOrder
+whole-order r n figures bytes room = record { by-line = write-line-order r n bytes room figures; by-frame = write-frame-order r bytes room figures; applied = write-order r n figures }
 
 -- ---- a refusal
 
@@ -125,7 +138,7 @@ refused r (quiet (apply n c)) u = kept r (applyOf r n c) (apply-keeps r n c) u
 pub answers : EveryCallAnswers
 answers r call = record {
   numbered = rw (first-given r call) (first-listed (refusals r call) (order call) (in-order r call));
-  first-given = first-given r call;
+  exactly = exactly r call;
   in-order = in-order r call;
   refused = refused r call;
 }

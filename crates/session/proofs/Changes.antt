@@ -11,20 +11,25 @@ use Rattle.zone.specs.declared.figures.Command.{Command}
 use Rattle.zone.specs.declared.figures.Command.the-variants.{Read, Write}
 use Rattle.zone.specs.declared.zones.Zone.{Zone}
 use Rattle.zone.specs.Lists.{isZero}
-use Rattle.zone.specs.Zones.{emptyZone}
+use Rattle.zone.specs.Zones.{newZone, emptyZone, stateNumbered}
+use Rattle.zone.specs.Rules.{SetsFigures, SetsStatus}
 use Rattle.card.specs.declared.records.Record.{Record}
 use Rattle.card.specs.Answers.{Result}
-use Rattle.card.specs.Records.{zoneAt, withZone}
+use Rattle.card.specs.declared.records.Found.the-variants.{At}
+use Rattle.card.specs.Records.{zoneAt, withZone, findOf}
 use Rattle.card.specs.Calls.{addOf, applyOf}
 use Rattle.card.proofs.Kept.{add-exactly, add-keeps, remove-keeps, report-keeps, apply-keeps}
+use Rattle.card.proofs.Found.{find-own}
 use Rattle.card.proofs.Sets.{remove-at-zone, report-at-zone, write-at-zone, add-sets, remove-sets, report-sets, write-sets, read-alters-nothing}
 use Rattle.wire.specs.declared.Parsed.the-variants.{Known}
+use Rattle.line.specs.Line.{lineRead}
 use Rattle.frame.specs.declared.reading.Framed.the-variants.{Request}
+use Rattle.frame.specs.Frame.{addressIn, frameRead}
 use Rattle.roads.specs.Calls.{textResult, answerText, frameResult, answerFrame}
 use Rattle.session.specs.Sessions.{text, frame, composeLine, composeFrame, add, remove, report, apply, Call, inRoom, quiet, after, Done}
-use Rattle.session.specs.Changes.{Writes, by-apply, by-line, by-frame, reported, removed, added, Becomes, stays, written, was-reported, was-removed, was-added, EveryZoneBecomes}
+use Rattle.session.specs.Changes.{Writes, by-apply, by-line, by-frame, Reports, reported, Removes, removed, Adds, added, WhatIsDoneIsSet, Becomes, stays, written, was-reported, was-removed, was-added, EveryZoneBecomes}
 use Rattle.session.proofs.Answering.{record-kept, by-done}
-use Rattle.session.proofs.Done.{line-is-done, frame-is-done}
+use Rattle.session.proofs.Done.{Applied, line-is-done, frame-is-done}
 
 by-zone : (n m : ℕ) {P : Type 0} → (n ≡ m → P) → ((n ≡ m → ⊥) → P) → P
 by-zone n m {P} f g = by-test (eqb n m) refl
@@ -87,7 +92,7 @@ frame-becomes r bytes room n =
     at-zone r (inRoom (frame bytes) room) (w .zone) n
     (λ k u. ap (λ (s : Record). zoneAt s k) same ∙ apply-keeps r (w .zone) (w .command) .others k u)
     (λ d. by-command r (answerFrame r bytes room .after) (inRoom (frame bytes) room) (w .zone) (w .command) same (w .came .done)
-    (λ f e. by-frame bytes room (w .reads ∙ (λ i. Request (sym (w .address) i) (Known (e i)))) d)))
+    (λ f e. by-frame bytes room (w .present .present) (w .reads ∙ (λ i. Request (sym (w .address) i) (Known (e i)))) d)))
     (λ u. stays (ap (λ (s : Record). zoneAt s n) (record-kept r (inRoom (frame bytes) room) u)))
 
 -- a done addition found the zone absent
@@ -106,3 +111,49 @@ becomes r (quiet (report m state actual)) n =
     at-zone r (quiet (report m state actual)) m n (report-keeps r m state actual .others) (λ d. was-reported state actual (reported d) (report-at-zone r m state actual d .present) (report-sets r m state actual d))
 becomes r (quiet (apply m c)) n =
     at-zone r (quiet (apply m c)) m n (apply-keeps r m c .others) (λ d. by-command r (applyOf r m c .after) (quiet (apply m c)) m c refl d (λ f e. subst (λ (x : Command). Writes m f r (quiet (apply m x))) (sym e) (by-apply (subst (λ (x : Command). Done r (quiet (apply m x))) e d))))
+
+-- ---- what is done is set
+
+-- the command that came by a road is the one that was read
+command-is : {c d : Command} → Known c ≡ Known d → c ≡ d
+command-is e = cc
+
+applied-sets : {o : Result Record} (r : Record) (n : ℕ) (c : Command) (f : Figures) → Applied o r n c → c ≡ Write f → SetsFigures (zoneAt r n) f (zoneAt (o .after) n)
+applied-sets {o} r n c f w e =
+    let came : o ≡ applyOf r n (Write f) = w .same ∙ ap (applyOf r n) e in
+    let done : applyOf r n (Write f) .number ≡ 0 = ap (λ (x : Command). applyOf r n x .number) (sym e) ∙ w .done in
+    rw came (write-sets r n f done)
+
+line-sets : (r : Record) (n : ℕ) (f : Figures) (line room : List ℕ) → lineRead line ≡ Known (Write f) → answerText r n line room .said .number ≡ 0 → SetsFigures (zoneAt r n) f (zoneAt (answerText r n line room .after) n)
+unfolding answerText
+line-sets r n f line room e d = let w = line-is-done r n line room d in applied-sets r n (w .command) f (w .came) (command-is (sym (w .reads) ∙ e))
+
+-- the zone that a frame reached is the one that has its address
+frame-sets : (r : Record) (n : ℕ) (f : Figures) (bytes room : List ℕ) → zoneAt r n .present ≡ true → frameRead bytes ≡ Request (zoneAt r n .address) (Known (Write f)) → answerFrame r bytes room .said .number ≡ 0
+    → SetsFigures (zoneAt r n) f (zoneAt (answerFrame r bytes room .after) n)
+unfolding answerFrame
+frame-sets r n f bytes room p e d =
+    let w = frame-is-done r bytes room d in
+    let read : Request (addressIn bytes) (Known (w .command)) ≡ Request (zoneAt r n .address) (Known (Write f)) = sym (w .reads) ∙ e in
+    let address : addressIn bytes ≡ zoneAt r n .address = cc in
+    let found : At (w .zone) ≡ At n = sym (w .found) ∙ ap (findOf r) address ∙ find-own r n (w .present .sound-record) p in
+    let zone : w .zone ≡ n = cc in
+    let command : w .command ≡ Write f = cc in
+    applied-sets r n (w .command) f (subst (λ (m : ℕ). Applied (frameResult r bytes room) r m (w .command)) zone (w .came)) command
+
+figures-set : (r : Record) (call : Call) (n : ℕ) (f : Figures) → Writes n f r call → SetsFigures (zoneAt r n) f (zoneAt (after r call) n)
+figures-set r call n f (by-apply d) = write-sets r n f d
+figures-set r call n f (by-line line room e d) = line-sets r n f line room e d
+figures-set r call n f (by-frame bytes room p e d) = frame-sets r n f bytes room p e d
+
+status-set : (r : Record) (call : Call) (n state actual : ℕ) → Reports n state actual r call → SetsStatus (zoneAt r n) (record { state = stateNumbered state; actual = actual }) (zoneAt (after r call) n)
+status-set r call n state actual (reported d) = report-sets r n state actual d
+
+emptied : (r : Record) (call : Call) (n : ℕ) → Removes n r call → zoneAt (after r call) n ≡ emptyZone
+emptied r call n (removed d) = remove-sets r n d
+
+made-new : (r : Record) (call : Call) (n address range : ℕ) → Adds n address range r call → zoneAt (after r call) n ≡ newZone address range
+made-new r call n address range (added d) = add-sets r n address range d
+
+pub sets : WhatIsDoneIsSet
+sets r call n = record { figures-set = figures-set r call n; status-set = status-set r call n; emptied = emptied r call n; made-new = made-new r call n }

@@ -15,7 +15,8 @@ use Rattle.card.specs.declared.records.Found.{Found}
 use Rattle.card.specs.declared.records.Found.the-variants.{At, Nowhere}
 use Rattle.card.specs.Answers.{Result}
 use Rattle.card.specs.Refusals.{Row, _gives_}
-use Rattle.card.specs.Records.{zoneAt, heldIn, sound, findOf, noZone}
+use Rattle.card.specs.Records.{zoneAt, sound, findOf, noZone}
+use Rattle.card.specs.Calls.{removeOf, reportOf, applyOf}
 use Rattle.card.proofs.Kept.{remove-keeps}
 use Rattle.card.proofs.Sets.{remove-at-zone, remove-sets, remove-frees}
 use Rattle.card.proofs.Scans.{found-somewhere}
@@ -25,9 +26,9 @@ use Rattle.line.specs.Line.{lineRead}
 use Rattle.frame.specs.Frame.{addressIn, bodyIn, shaped, checksumRight, bodyRead}
 use Rattle.roads.specs.Acknowledgements.{textReply, frameReply}
 use Rattle.roads.specs.Calls.{Said, Answered, tooSmall, parsedRows, inTextReply, answerText, holder, resultAt, inFrameReply, answerFrame}
-use Rattle.session.specs.Sessions.{remove, Call, quiet, after, Done, run, Throughout}
+use Rattle.session.specs.Sessions.{Quiet, remove, Call, quiet, answerTo, after, Done, run, Throughout}
 use Rattle.session.specs.Changes.{Becomes, stays, written, was-reported, was-removed, was-added, Adds, added, NotAdded, NotGiven}
-use Rattle.session.specs.Demands.{StaysEmpty, StaysRemoved, MeetsSilence, refusedSilently, RemovedStaysGone}
+use Rattle.session.specs.Demands.{StaysEmpty, StaysRemoved, MeetsSilence, refusedSilently, PointsAt, applies, reports, removes, RemovedStaysGone}
 use Rattle.session.proofs.Changes.{becomes}
 use Rattle.session.proofs.Demand3.{stays-sound}
 
@@ -75,8 +76,18 @@ unheld-five : (r : Record) (f room : List ℕ) → holder r f ≡ Nowhere → 32
 unfolding answerFrame frameReply
 unheld-five r f room e h s k = rw (le-ltb (length room) 32 h, s, k, e)
 
+-- a zone that is not present with that address does not hold it
+not-holding : (a : ℕ) (z : Zone) → (z .present ≡ true → z .address ≡ a → ⊥) → holds a z ≡ false
+not-holding a z u = by-tests (z .present) (eqb (z .address) a) refl refl
+  where
+    by-tests : (p t : Bool) → z .present ≡ p → eqb (z .address) a ≡ t → (p && t) ≡ false
+    by-tests true true p e = absurd (u p (eqb-true (z .address) a e))
+    by-tests true false p e = refl
+    by-tests false t p e = refl
+
 pub meets-silence : MeetsSilence
-meets-silence r f room e =
+meets-silence r f room u =
+    let e = found-nowhere r (addressIn f) .1 (λ m. not-holding (addressIn f) (zoneAt r m) (u m)) in
     let silent = unheld-silent r f room e .1 in
     record {
       record-kept = ap (λ (a : Answered). a .after) silent;
@@ -126,11 +137,20 @@ removed-unheld r n d = found-nowhere gone a .0 (by-found (findOf gone a) refl)
     by-found (At m) e = never (sym (remove-frees r n d .unheld) ∙ sym (found-somewhere (gone .zones) a m e))
     by-found Nowhere e = e
 
--- ---- every order that still points at a removed zone is refused in silence
+-- ---- every call that still points at a removed zone is refused in silence
+
+absent : (r : Record) (n : ℕ) → zoneAt r n ≡ emptyZone → noZone r n ≡ true
+absent r n e = rw (ap (λ (z : Zone). z .present) e) (or-true (leb 16 n))
 
 text-three : (r : Record) (n : ℕ) (line room : List ℕ) → sound r ≡ true → zoneAt r n ≡ emptyZone → 32 ≤ length room → answerText r n line room ≡ refusedSilently 3 r room
 unfolding answerText textReply
-text-three r n line room s e h = rw (le-ltb (length room) 32 h, s, e, or-true (leb 16 n))
+text-three r n line room s e h = rw (le-ltb (length room) 32 h, s, absent r n e)
+
+call-three : (r : Record) (n : ℕ) (call : Quiet) → sound r ≡ true → zoneAt r n ≡ emptyZone → PointsAt n call → answerTo r (quiet call) ≡ refusedSilently 3 r []
+unfolding applyOf reportOf removeOf
+call-three r n call s e (applies command) = rw (s, absent r n e)
+call-three r n call s e (reports state actual) = rw (s, absent r n e)
+call-three r n call s e removes = rw (s, absent r n e)
 
 pub stays-gone : RemovedStaysGone
 stays-gone r n calls room d h =
@@ -141,4 +161,5 @@ stays-gone r n calls room d h =
       by-frame = λ u bytes k a.
           let nobody = found-nowhere (run gone calls) (addressIn bytes) .1 (rw a (stays-unheld (zoneAt r n .address) gone calls (removed-unheld r n d) u)) in
           unheld-five (run gone calls) bytes room nobody h s k;
+      by-call = λ u call p. call-three (run gone calls) n call s (stays-removed r n calls d u) p;
     }

@@ -1,17 +1,20 @@
 -- Demand 2, gathered from the roads: replies; composing reads back; replies made writes; acknowledgements differ. Assumes nothing.
 use Prim.Native.Nat.{ℕ, _≤_}
 use mathlib.Core.Path.{_≡_, refl, sym, ap, _∙_}
-use mathlib.Core.Bool.{true, false, cond}
+use mathlib.Core.Bool.{Bool, true, false, cond, not}
 use mathlib.Core.List.{List, [], _∷_}
 use lib.ListN.{length}
+use borrow.Author.Tests.{lt-leb}
 use Rattle.zone.specs.declared.figures.Figures.{Figures}
 use Rattle.zone.specs.declared.figures.Command.{Command}
 use Rattle.zone.specs.declared.figures.Command.the-variants.{Read, Write}
 use Rattle.zone.specs.declared.figures.Group.{Group}
-use Rattle.zone.specs.Zones.{figuresOf}
+use Rattle.zone.specs.Figures.{groupOf, inRange}
+use Rattle.zone.specs.Zones.{figuresOf, locks}
 use Rattle.zone.specs.Lists.{isZero}
 use Rattle.card.specs.declared.records.Record.{Record}
 use Rattle.card.specs.Answers.{Result}
+use Rattle.card.specs.Refusals.{_gives_, first}
 use Rattle.card.specs.Records.{zoneAt}
 use Rattle.card.specs.Calls.{applyOf}
 use Rattle.card.proofs.Sets.{read-tells, read-alters-nothing}
@@ -28,7 +31,7 @@ use Rattle.roads.proofs.Applied.{text-applies, frame-applies}
 use Rattle.roads.proofs.ReadBack.{line-composed, line-carried, frame-composed, frame-carried, line-reads-back, frame-reads-back}
 use Rattle.roads.proofs.Replies.{text-reply-writes, frame-reply-writes, texts-differ, bytes-differ}
 use Rattle.session.specs.Sessions.{apply, quiet, answerTo}
-use Rattle.session.specs.Demands.{Present, tells, Same, ReadsAreReplied, WritesAreReplied, ComposedReadsBack, AcknowledgementsDiffer}
+use Rattle.session.specs.Demands.{Present, tells, writeNumber, Same, ReadsAreReplied, WritesAreReplied, WritesAreJudged, ComposedReadsBack, AcknowledgementsDiffer}
 use Rattle.session.proofs.Done.{Applied, line-done, frame-done}
 
 -- whichever road the read came by
@@ -88,7 +91,38 @@ frame-reply r n f room p k e =
 pub write-replies : WritesAreReplied
 write-replies r n f room = record { by-line = line-reply r n f room; by-frame = frame-reply r n f room }
 
--- ---- what is composed, sent
+-- ---- when a write is done
+
+-- past 2 and 3 a write is judged by its ranges and by the lock
+apply-number : (r : Record) (n : ℕ) (f : Figures) → Present r n → applyOf r n (Write f) .number ≡ writeNumber (zoneAt r n) f
+unfolding applyOf
+apply-number r n f p = rw (p .sound-record, lt-leb 16 n (p .below), p .present) (by-range (inRange (zoneAt r n .range) f) (locks (zoneAt r n .status .state) (groupOf f)))
+  where
+    by-range : (t u : Bool) → first ((not t gives 9) ∷ (u gives 10) ∷ []) ≡ cond t (cond u 10 0) 9
+    by-range true u = refl
+    by-range false u = refl
+
+line-number : (r : Record) (n : ℕ) (f : Figures) (room : List ℕ) → Present r n → 32 ≤ length room → carriesCommand textRoad (Write f) ≡ true → answerText r n (lineOf (Write f)) room .said .number ≡ writeNumber (zoneAt r n) f
+unfolding answerText
+line-number r n f room p h k = ap (λ (o : Result Record). o .number) (text-applies r n (Write f) room h k) ∙ apply-number r n f p
+
+frame-number : (r : Record) (n : ℕ) (f : Figures) (room : List ℕ) → Present r n → 32 ≤ length room → carriesCommand frameRoad (Write f) ≡ true
+    → answerFrame r (frameOf (zoneAt r n .address) (Write f)) room .said .number ≡ writeNumber (zoneAt r n) f
+unfolding answerFrame
+frame-number r n f room p h k = ap (λ (o : Result Record). o .number) (frame-applies r n (Write f) room (p .sound-record) (p .present) h k) ∙ apply-number r n f p
+
+pub judged : WritesAreJudged
+judged r n f room p h = record { applied = apply-number r n f p; by-line = line-number r n f room p h; by-frame = frame-number r n f room p h }
+
+-- ---- what is composed, and sent
+
+line-said : (c : Command) (room : List ℕ) → composedLine c room .number ≡ 0 → composedLine c room ≡ said 0 [] (lineOf c) room
+unfolding composedLine
+line-said c room e = rw e
+
+frame-said : (a : ℕ) (c : Command) (room : List ℕ) → composedFrame a c room .number ≡ 0 → composedFrame a c room ≡ said 0 [] (frameOf a c) room
+unfolding composedFrame
+frame-said a c room e = rw e
 
 same-of : (o p : Result Record) (s t : Said) → o ≡ p → s .number ≡ o .number → s .values ≡ o .values → t .number ≡ p .number → t .values ≡ p .values → Same (record { said = s; after = o .after }) (record { said = t; after = p .after })
 same-of o p s t e a b c d = record { same-record = ap (λ (x : Result Record). x .after) e; same-number = a ∙ ap (λ (x : Result Record). x .number) e ∙ sym c; same-figures = b ∙ ap (λ (x : Result Record). x .values) e ∙ sym d }
@@ -108,7 +142,14 @@ frame-sent a c room e r n room′ p q h =
     same-of (frameResult r (replyIn (composedFrame a c room)) room′) (applyOf r n c) _ _ same refl refl refl refl
 
 pub reads-back : ComposedReadsBack
-reads-back a c room = record { line-back = line-reads-back c room; frame-back = frame-reads-back a c room; line-sent = line-sent c room; frame-sent = frame-sent a c room }
+reads-back a c room = record {
+  line-said = line-said c room;
+  frame-said = frame-said a c room;
+  line-back = line-reads-back c room;
+  frame-back = frame-reads-back a c room;
+  line-sent = line-sent c room;
+  frame-sent = frame-sent a c room;
+}
 
 pub differ : AcknowledgementsDiffer
 differ a b = record { in-text = texts-differ a b; in-frames = bytes-differ a b }

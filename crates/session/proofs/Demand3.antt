@@ -31,7 +31,7 @@ use Rattle.roads.specs.Calls.{textResult, answerText, frameResult, answerFrame}
 use Rattle.roads.proofs.Applied.{text-applies, frame-applies}
 use Rattle.roads.proofs.Replies.{in-range-both}
 use Rattle.session.specs.Sessions.{text, frame, composeLine, composeFrame, add, remove, report, apply, Call, inRoom, quiet, answerTo, after, Done, runBy}
-use Rattle.session.specs.Demands.{bothCarry, bothBound, BothBounds, BothCarried, Present, SameByBoth, StaysSound, OnlyLines, OnlyFrames, OtherRoad, by-frame, by-text, Rerouted, done, as-before, other-road, SameEnd}
+use Rattle.session.specs.Demands.{bothCarry, bothBound, BothBounds, BothCarried, Present, SameByBoth, StaysSound, OnlyLines, OnlyFrames, OtherRoad, by-frame, by-text, Rerouted, over, as-before, other-road, SameEnd}
 use Rattle.session.proofs.Answering.{record-kept, by-done}
 use Rattle.session.proofs.Done.{Applied, line-is-done, frame-is-done}
 
@@ -168,7 +168,7 @@ stays-sound r (x ∷ xs) s = stays-sound (after r x) xs (one-sound r x s)
 -- once for any kinds of calls: where a call may be sent by another road with the same record, sessions that differ in roads alone end alike
 module _ {C : Type 0} (step : Record → C → Record) (Other : Record → C → C → Type 0) (same : (r : Record) (x y : C) → Other r x y → step r x ≡ step r y) where
   pub ends-alike : {r : Record} {xs ys : List C} → Rerouted step Other r xs ys → runBy step r xs ≡ runBy step r ys
-  ends-alike done = refl
+  ends-alike over = refl
   ends-alike (as-before x rest) = ends-alike rest
   ends-alike {r} (other-road {xs = xs} {ys = ys} x y o rest) = ends-alike rest ∙ ap (λ (s : Record). runBy step s ys) (same r x y o)
 

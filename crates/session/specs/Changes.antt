@@ -1,4 +1,4 @@
--- What a call does to a zone: nothing, or exactly what document 01 has a done write, report, removal or addition set. The demands on whole sessions are said in these words.
+-- What a call does to a zone: what document 01 has a done write, report, removal or addition set is set, and nothing else becomes of any zone. The hypotheses of the demands on whole sessions are said in these words.
 -- "P → ⊥" says that P does not hold, "P × Q" that both do.
 use Prim.Native.Nat.{ℕ}
 use mathlib.Core.Path.{_≡_}
@@ -23,7 +23,8 @@ use Rattle.session.specs.Sessions.{text, frame, add, remove, report, app
 pub data Writes (n : ℕ) (figures : Figures) (r : Record) : Call → Type 0 where
   by-apply : Done r (quiet (apply n (Write figures))) → Writes n figures r (quiet (apply n (Write figures)))
   by-line : (line room : List ℕ) → lineRead line ≡ Known (Write figures) → Done r (inRoom (text n line) room) → Writes n figures r (inRoom (text n line) room)
-  by-frame : (bytes room : List ℕ) → frameRead bytes ≡ Request (zoneAt r n .address) (Known (Write figures)) → Done r (inRoom (frame bytes) room) → Writes n figures r (inRoom (frame bytes) room)
+  by-frame : (bytes room : List ℕ) → zoneAt r n .present ≡ true → frameRead bytes ≡ Request (zoneAt r n .address) (Known (Write figures)) → Done r (inRoom (frame bytes) room)
+      → Writes n figures r (inRoom (frame bytes) room)
 
 -- a done report of that state and actual value to zone n, a done removal of it, a done addition of it with that address and temperature range
 pub data Reports (n state actual : ℕ) (r : Record) : Call → Type 0 where
@@ -35,7 +36,18 @@ pub data Removes (n : ℕ) (r : Record) : Call → Type 0 where
 pub data Adds (n address range : ℕ) (r : Record) : Call → Type 0 where
   added : Done r (quiet (add n address range)) → Adds n address range r (quiet (add n address range))
 
--- what becomes of zone n: it stays as it is or, where it is present, gets what is written or reported, or is emptied; where it is absent, it may become a new zone
+-- what is done is set: "A done write sets exactly the figures of its group in its zone"; "A done report sets exactly the state and the actual value of its zone"; "Removing empties the zone"; a done addition gives the new zone
+pub record Sets (r : Record) (n : ℕ) (call : Call) (z : Zone) : Type 0 where
+  pub figures-set : (figures : Figures) → Writes n figures r call → SetsFigures (zoneAt r n) figures z
+  pub status-set : (state actual : ℕ) → Reports n state actual r call → SetsStatus (zoneAt r n) (record { state = stateNumbered state; actual = actual }) z
+  pub emptied : Removes n r call → z ≡ emptyZone
+  pub made-new : (address range : ℕ) → Adds n address range r call → z ≡ newZone address range
+
+-- `sets`, in proofs/Changes.antt: of every call and every zone
+abbrev pub WhatIsDoneIsSet : Type 0
+WhatIsDoneIsSet = (r : Record) (call : Call) (n : ℕ) → Sets r n call (zoneAt (after r call) n)
+
+-- and nothing else becomes of zone n: it stays as it is or, where it is present, gets what is written or reported, or is emptied; where it is absent, it may become a new zone
 pub data Becomes (r : Record) (n : ℕ) (call : Call) (z : Zone) : Type 0 where
   stays : z ≡ zoneAt r n → Becomes r n call z
   written : (figures : Figures) → Writes n figures r call → zoneAt r n .present ≡ true → SetsFigures (zoneAt r n) figures z → Becomes r n call z
@@ -43,7 +55,7 @@ pub data Becomes (r : Record) (n : ℕ) (call : Call) (z : Zone) : Type 0 where
   was-removed : Removes n r call → zoneAt r n .present ≡ true → z ≡ emptyZone → Becomes r n call z
   was-added : (address range : ℕ) → Adds n address range r call → zoneAt r n .present ≡ false → z ≡ newZone address range → Becomes r n call z
 
--- becomes, in proofs/Changes.antt: of every call, whatever it is and whatever it is answered, and of every zone
+-- `becomes`, in proofs/Changes.antt: of every call, whatever it is and whatever it is answered, and of every zone
 abbrev pub EveryZoneBecomes : Type 0
 EveryZoneBecomes = (r : Record) (call : Call) (n : ℕ) → Becomes r n call (zoneAt (after r call) n)
 

@@ -3,7 +3,7 @@
 use Prim.Native.Nat.{ℕ, _≤_, _<_, min}
 use mathlib.Core.Path.{_≡_}
 use mathlib.Core.Logic.{_⊎_}
-use mathlib.Core.Bool.{Bool, true, _&&_}
+use mathlib.Core.Bool.{Bool, true, cond, _&&_}
 use mathlib.Core.List.{List, [], _∷_, map}
 use lib.ListN.{length, getD, set}
 use lib.Dec.{eqb, ltb}
@@ -11,22 +11,22 @@ use Rattle.zone.specs.declared.figures.Group.{Group}
 use Rattle.zone.specs.declared.figures.Figures.{Figures}
 use Rattle.zone.specs.declared.figures.Command.{Command}
 use Rattle.zone.specs.declared.figures.Command.the-variants.{Read, Write}
+use Rattle.zone.specs.declared.zones.Zone.{Zone}
 use Rattle.zone.specs.Lists.{some, every}
 use Rattle.zone.specs.Table.{Kind, flag, limit, time}
-use Rattle.zone.specs.Figures.{groupOf, entriesOf}
-use Rattle.zone.specs.Zones.{emptyZone, figuresOf, addressInRange}
+use Rattle.zone.specs.Figures.{groupOf, entriesOf, inRange}
+use Rattle.zone.specs.Zones.{emptyZone, figuresOf, addressInRange, locks}
 use Rattle.zone.specs.Rules.{SetsFigures}
 use Rattle.card.specs.declared.records.Record.{Record}
-use Rattle.card.specs.declared.records.Found.the-variants.{Nowhere}
-use Rattle.card.specs.Refusals.{Row, first}
-use Rattle.card.specs.Records.{zoneAt, sound, findOf}
+use Rattle.card.specs.Refusals.{Row}
+use Rattle.card.specs.Records.{zoneAt, sound}
 use Rattle.card.specs.Calls.{addRows, zoneRows, removeAt, reportAt, commandAt}
-use Rattle.card.specs.Rules.{addOrder, removeOrder, reportOrder, applyOrder, InOrder}
+use Rattle.card.specs.Rules.{ExactlyWhen, numbersIn, addOrder, removeOrder, reportOrder, applyOrder, InOrder}
 use Rattle.wire.specs.declared.Parsed.the-variants.{Known}
 use Rattle.wire.specs.Road.{carriesCommand}
 use Rattle.line.specs.Line.{A, S, textRoad, lineWith, lineOf, lineRead}
 use Rattle.frame.specs.declared.reading.Framed.the-variants.{Request}
-use Rattle.frame.specs.Frame.{frameRoad, shortFrame, bodyWith, framed, frameOf, addressIn, shaped, frameRead}
+use Rattle.frame.specs.Frame.{frameRoad, shortFrame, bodyWith, framed, frameOf, bodyIn, addressIn, shaped, bodyRead, frameRead}
 use Rattle.roads.specs.declared.answering.Acknowledgement.{Acknowledgement}
 use Rattle.roads.specs.declared.answering.Acknowledgement.the-variants.{Okay}
 use Rattle.roads.specs.Acknowledgements.{textOf, functionOf, textRefusal, frameRefusal}
@@ -36,7 +36,7 @@ use Rattle.session.specs.Changes.{NotAdded, NotGiven, NotRewritten}
 
 -- ---- 1. "Any bytes, any zone number and any record may be handed to the card."
 
--- the order of a call's refusals, as document 01 prints it
+-- the order of a call's refusals, as document 01 prints it; of apply, as it follows from that of a line
 abbrev pub spokenOrder : Speaking → List ℕ
 spokenOrder (text zone line) = textOrder
 spokenOrder (frame bytes) = frameOrder
@@ -92,18 +92,28 @@ fixed (quiet call) number = []
 pub record EndsWell (r : Record) (call : Call) : Type 0 where
   -- "Every call ends with one of the numbered answers of document 01."
   pub numbered : among (answerTo r call .said .number) (0 ∷ order call) ≡ true
-  -- "Where several apply, the first in the call's order is given" (document 01): the first of its refusals, and these stand in the printed order
-  pub first-given : answerTo r call .said .number ≡ first (refusals r call)
+  -- "Given exactly when" and "Where several apply, the first in the call's order is given" (document 01): each number exactly where its test holds and no earlier one does, 0 exactly where none holds, and the numbers stand in the printed order
+  pub exactly : ExactlyWhen (refusals r call) (answerTo r call .said .number)
   pub in-order : InOrder (refusals r call) (order call)
   -- "A refused call leaves the record as it was and writes nothing but the acknowledgement fixed there." It tells no figures, and the room keeps its contents behind the acknowledgement
   pub refused : (Done r call → ⊥) → answerTo r call ≡ record { said = said (answerTo r call .said .number) [] (fixed call (answerTo r call .said .number)) (lent call); after = r }
 
--- answers, in proofs/Demand1.antt. Exactly when each refusal applies: text-exactly and its like (docs/PROMISES.md)
+-- `answers`, in proofs/Answering.antt
 abbrev pub EveryCallAnswers : Type 0
 EveryCallAnswers = (r : Record) (call : Call) → EndsWell r call
 
+-- of a write the refusals are the whole printed order: a card that forgets one of them has a shorter list.
+pub record WholeOrder (r : Record) (n : ℕ) (figures : Figures) (bytes room : List ℕ) : Type 0 where
+  pub by-line : lineRead bytes ≡ Known (Write figures) → numbersIn (refusals r (inRoom (text n bytes) room)) ≡ textOrder
+  pub by-frame : bodyRead (bodyIn bytes) ≡ Known (Write figures) → numbersIn (refusals r (inRoom (frame bytes) room)) ≡ frameOrder
+  pub applied : numbersIn (refusals r (quiet (apply n (Write figures)))) ≡ applyOrder
+
+-- `whole-order`, in proofs/Answering.antt
+abbrev pub WritesHaveTheWholeOrder : Type 0
+WritesHaveTheWholeOrder = (r : Record) (n : ℕ) (figures : Figures) (bytes room : List ℕ) → WholeOrder r n figures bytes room
+
 -- "Until it is added again a removed zone is never written to": it stays the empty zone, through any session and from any record. A refused addition does not add it.
--- stays-empty and stays-removed, in proofs/Demand1.antt
+-- `stays-empty` and `stays-removed`, in proofs/Demand1.antt
 abbrev pub StaysEmpty : Type 0
 StaysEmpty = (r : Record) (n : ℕ) (calls : List Call) → zoneAt r n ≡ emptyZone → Throughout (NotAdded n) r calls → zoneAt (run r calls) n ≡ emptyZone
 
@@ -120,24 +130,34 @@ pub record Silence (r : Record) (bytes room : List ℕ) : Type 0 where
   -- and where nothing comes before it in the order, the number is 5
   pub five : 32 ≤ length room → sound r ≡ true → shaped bytes ≡ true → answerFrame r bytes room .said .number ≡ 5
 
--- meets-silence, in proofs/Demand1.antt
+-- `meets-silence`, in proofs/Demand1.antt
 abbrev pub MeetsSilence : Type 0
-MeetsSilence = (r : Record) (bytes room : List ℕ) → findOf r (addressIn bytes) ≡ Nowhere → Silence r bytes room
+MeetsSilence = (r : Record) (bytes room : List ℕ) → ((n : ℕ) → zoneAt r n .present ≡ true → zoneAt r n .address ≡ addressIn bytes → ⊥) → Silence r bytes room
 
 -- the buyer's case: "fitters folded head 5 into head 4. The orders still pointed at head 5. The old card went on answering OK to its address".
--- Once a zone has been removed, every order that still points at it is refused, in silence and to the end of any session: a line to its number with 3, until the zone is added again;
--- a frame of document 01's shape to its old address with 5, until a zone is added with that address
+-- Once a zone has been removed, every call that still points at it is refused, in silence and to the end of any session: one that names its number with 3, until the zone is added again;
+-- a frame of document 01's shape to its old address with 5, until a zone is added with that address. (On the two roads with room of 32 bytes; with less it is 1, in silence too.)
 abbrev pub refusedSilently : ℕ → Record → List ℕ → Answered
 refusedSilently number r room = record { said = said number [] [] room; after = r }
 
-pub record Gone (r : Record) (n : ℕ) (calls : List Call) (room : List ℕ) : Type 0 where
-  pub by-line : Throughout (NotAdded n) (after r (quiet (remove n))) calls
-      → (line : List ℕ) → answerText (run (after r (quiet (remove n))) calls) n line room ≡ refusedSilently 3 (run (after r (quiet (remove n))) calls) room
-  pub by-frame : Throughout (NotGiven (zoneAt r n .address)) (after r (quiet (remove n))) calls
-      → (bytes : List ℕ) → shaped bytes ≡ true → addressIn bytes ≡ zoneAt r n .address
-      → answerFrame (run (after r (quiet (remove n))) calls) bytes room ≡ refusedSilently 5 (run (after r (quiet (remove n))) calls) room
+-- the record at the end of a session that began with the removal
+abbrev pub later : Record → ℕ → List Call → Record
+later r n calls = run (after r (quiet (remove n))) calls
 
--- stays-gone, in proofs/Demand1.antt
+-- a call without a reply that is made at zone n, other than adding it
+pub data PointsAt (n : ℕ) : Quiet → Type 0 where
+  applies : (command : Command) → PointsAt n (apply n command)
+  reports : (state actual : ℕ) → PointsAt n (report n state actual)
+  removes : PointsAt n (remove n)
+
+pub record Gone (r : Record) (n : ℕ) (calls : List Call) (room : List ℕ) : Type 0 where
+  pub by-line : Throughout (NotAdded n) (after r (quiet (remove n))) calls → (line : List ℕ) → answerText (later r n calls) n line room ≡ refusedSilently 3 (later r n calls) room
+  pub by-frame : Throughout (NotGiven (zoneAt r n .address)) (after r (quiet (remove n))) calls
+      → (bytes : List ℕ) → shaped bytes ≡ true → addressIn bytes ≡ zoneAt r n .address → answerFrame (later r n calls) bytes room ≡ refusedSilently 5 (later r n calls) room
+  -- applying a command, reporting, removing once more
+  pub by-call : Throughout (NotAdded n) (after r (quiet (remove n))) calls → (call : Quiet) → PointsAt n call → answerTo (later r n calls) (quiet call) ≡ refusedSilently 3 (later r n calls) []
+
+-- `stays-gone`, in proofs/Demand1.antt
 abbrev pub RemovedStaysGone : Type 0
 RemovedStaysGone = (r : Record) (n : ℕ) (calls : List Call) (room : List ℕ) → Done r (quiet (remove n)) → 32 ≤ length room → Gone r n calls room
 
@@ -162,7 +182,7 @@ pub record Replies (r : Record) (n : ℕ) (group : Group) (room : List ℕ) : Ty
   pub line-writes : lineRead (set (lineWith A (figuresOf (zoneAt r n) group)) 0 S) ≡ Known (Write (figuresOf (zoneAt r n) group))
   pub frame-writes : frameRead (framed (set (bodyWith (zoneAt r n .address) 0x00 (figuresOf (zoneAt r n) group)) 1 0x69)) ≡ Request (zoneAt r n .address) (Known (Write (figuresOf (zoneAt r n) group)))
 
--- replies, in proofs/Demand2.antt
+-- `replies`, in proofs/Demand2.antt
 abbrev pub ReadsAreReplied : Type 0
 ReadsAreReplied = (r : Record) (n : ℕ) (group : Group) (room : List ℕ) → Present r n → 32 ≤ length room → Replies r n group room
 
@@ -173,11 +193,24 @@ pub record WriteReply (r : Record) (n : ℕ) (figures : Figures) (room : List �
   pub by-frame : Present r n → carriesCommand frameRoad (Write figures) ≡ true → Done r (inRoom (frame (frameOf (zoneAt r n .address) (Write figures))) room)
       → answerFrame r (frameOf (zoneAt r n .address) (Write figures)) room .said ≡ said 0 [] (shortFrame (zoneAt r n .address) 0x00) room
 
--- write-replies, in proofs/Demand2.antt
+-- `write-replies`, in proofs/Demand2.antt
 abbrev pub WritesAreReplied : Type 0
 WritesAreReplied = (r : Record) (n : ℕ) (figures : Figures) (room : List ℕ) → WriteReply r n figures room
 
--- what is compared of two answers: "record, number and figures"
+-- a write to a present zone of a sound record, with room of 32 bytes, is refused with 9 where a figure is out of its range, else with 10 where the state locks its group, and else done: so a card that refuses all is none
+abbrev pub writeNumber : Zone → Figures → ℕ
+writeNumber z figures = cond (inRange (z .range) figures) (cond (locks (z .status .state) (groupOf figures)) 10 0) 9
+
+pub record Judged (r : Record) (n : ℕ) (figures : Figures) (room : List ℕ) : Type 0 where
+  pub applied : answerTo r (quiet (apply n (Write figures))) .said .number ≡ writeNumber (zoneAt r n) figures
+  pub by-line : carriesCommand textRoad (Write figures) ≡ true → answerText r n (lineOf (Write figures)) room .said .number ≡ writeNumber (zoneAt r n) figures
+  pub by-frame : carriesCommand frameRoad (Write figures) ≡ true → answerFrame r (frameOf (zoneAt r n .address) (Write figures)) room .said .number ≡ writeNumber (zoneAt r n) figures
+
+-- `judged`, in proofs/Demand2.antt
+abbrev pub WritesAreJudged : Type 0
+WritesAreJudged = (r : Record) (n : ℕ) (figures : Figures) (room : List ℕ) → Present r n → 32 ≤ length room → Judged r n figures room
+
+-- what is compared of two answers: the record, the number and the figures
 pub record Same (a b : Answered) : Type 0 where
   pub same-record : a .after ≡ b .after
   pub same-number : a .said .number ≡ b .said .number
@@ -185,6 +218,9 @@ pub record Same (a b : Answered) : Type 0 where
 
 -- "Every command that the card composes, as line or frame, it reads back as that command with those figures."
 pub record ReadsBack (address : ℕ) (command : Command) (room : List ℕ) : Type 0 where
+  -- a done composing leaves the line, or the frame, in the room, which keeps its contents behind it
+  pub line-said : composedLine command room .number ≡ 0 → composedLine command room ≡ said 0 [] (lineOf command) room
+  pub frame-said : composedFrame address command room .number ≡ 0 → composedFrame address command room ≡ said 0 [] (frameOf address command) room
   pub line-back : composedLine command room .number ≡ 0 → lineRead (replyIn (composedLine command room)) ≡ Known command
   pub frame-back : composedFrame address command room .number ≡ 0 → frameRead (replyIn (composedFrame address command room)) ≡ Request address (Known command)
   -- and sent, with reply room of 32 bytes, it comes to what applying the command comes to: the line to any zone of any record, the frame to the present zone of a sound record that has its address
@@ -194,7 +230,7 @@ pub record ReadsBack (address : ℕ) (command : Command) (room : List ℕ) : Typ
       → (r : Record) (n : ℕ) (room′ : List ℕ) → Present r n → zoneAt r n .address ≡ address → 32 ≤ length room′
       → Same (answerFrame r (replyIn (composedFrame address command room)) room′) (answerTo r (quiet (apply n command)))
 
--- reads-back, in proofs/Demand2.antt
+-- `reads-back`, in proofs/Demand2.antt
 abbrev pub ComposedReadsBack : Type 0
 ComposedReadsBack = (address : ℕ) (command : Command) (room : List ℕ) → ReadsBack address command room
 
@@ -203,7 +239,7 @@ pub record Differ (a b : Acknowledgement) : Type 0 where
   pub in-text : textOf a ≡ textOf b → a ≡ b
   pub in-frames : functionOf a ≡ functionOf b → a ≡ b
 
--- differ, in proofs/Demand2.antt
+-- `differ`, in proofs/Demand2.antt
 abbrev pub AcknowledgementsDiffer : Type 0
 AcknowledgementsDiffer = (a b : Acknowledgement) → Differ a b
 
@@ -217,7 +253,7 @@ bothCarry command = carriesCommand textRoad command && carriesCommand frameRoad 
 abbrev pub bothBound : Kind → ℕ
 bothBound kind = min (textRoad .bound kind) (frameRoad .bound kind)
 
--- "flag 0..9, one-byte figures 0..255, two-byte figures 0..999": both-bounds and both-carried, in proofs/Demand3.antt
+-- "flag 0..9, one-byte figures 0..255, two-byte figures 0..999": `both-bounds` and `both-carried`, in proofs/Demand3.antt
 abbrev pub BothBounds : Type 0
 BothBounds = map bothBound (flag ∷ limit ∷ time ∷ []) ≡ 10 ∷ 256 ∷ 1000 ∷ []
 
@@ -225,7 +261,7 @@ abbrev pub BothCarried : Type 0
 BothCarried = (f : Figures) → bothCarry (Write f) ≡ every (λ e. ltb (e .number) (bothBound (e .column .kind))) (entriesOf f)
 
 -- "leaves the same record and gets the same answer number and figures, whether it comes as text or as a frame".
--- same-by-both, in proofs/Demand3.antt
+-- `same-by-both`, in proofs/Demand3.antt
 abbrev pub SameByBoth : Type 0
 SameByBoth = (r : Record) (n : ℕ) (command : Command) (room room′ : List ℕ) → Present r n → bothCarry command ≡ true → 32 ≤ length room → 32 ≤ length room′
     → Same (answerText r n (lineOf command) room) (answerFrame r (frameOf (zoneAt r n .address) command) room′)
@@ -249,7 +285,7 @@ pub record IsFrame (r : Record) (bytes room : List ℕ) : Type 0 where
   pub present : Present r zone
   pub served : 32 ≤ length room
 
--- only-lines and only-frames, in proofs/Demand3.antt
+-- `only-lines` and `only-frames`, in proofs/Demand3.antt
 abbrev pub OnlyLines : Type 0
 OnlyLines = (r : Record) (n : ℕ) (line room : List ℕ) → DoneOrAlters r (answerText r n line room) → IsLine r n line room
 
@@ -257,7 +293,7 @@ OnlyLines = (r : Record) (n : ℕ) (line room : List ℕ) → DoneOrAlters r (an
 abbrev pub OnlyFrames : Type 0
 OnlyFrames = (r : Record) (bytes room : List ℕ) → ((i : ℕ) → getD bytes i 0 < 256) → DoneOrAlters r (answerFrame r bytes room) → IsFrame r bytes room
 
--- a sound record stays sound, through any session: stays-sound, in proofs/Demand3.antt
+-- a sound record stays sound, through any session: `stays-sound`, in proofs/Demand3.antt
 abbrev pub StaysSound : Type 0
 StaysSound = (r : Record) (calls : List Call) → sound r ≡ true → sound (run r calls) ≡ true
 
@@ -270,35 +306,35 @@ pub data OtherRoad (r : Record) : Call → Call → Type 0 where
 
 -- two sessions that differ in roads alone, at any number of places. It is said of any kinds of calls: step is what a call does to the record, Other which calls go by the other road
 pub data Rerouted {C : Type 0} (step : Record → C → Record) (Other : Record → C → C → Type 0) : Record → List C → List C → Type 0 where
-  done : {r : Record} → Rerouted step Other r [] []
+  over : {r : Record} → Rerouted step Other r [] []
   as-before : {r : Record} {xs ys : List C} (x : C) → Rerouted step Other (step r x) xs ys → Rerouted step Other r (x ∷ xs) (x ∷ ys)
   other-road : {r : Record} {xs ys : List C} (x y : C) → Other r x y → Rerouted step Other (step r x) xs ys → Rerouted step Other r (x ∷ xs) (y ∷ ys)
 
 -- "So in any session, sending any such command by the other road gives the same record at the end."
--- same-end, in proofs/Demand3.antt
+-- `same-end`, in proofs/Demand3.antt
 abbrev pub SameEnd : Type 0
 SameEnd = (r : Record) (xs ys : List Call) → Rerouted after OtherRoad r xs ys → run r xs ≡ run r ys
 
--- ---- the card that stores the first command of a session and only acknowledges later ones
+-- ---- the cards that store the first command of a session and only acknowledge later ones, or forget what they stored
 
 -- "A done write sets exactly the figures of its group in its zone" (document 01), and no other zone is touched
-pub record SetsOnly (before : Record) (n : ℕ) (figures : Figures) (after : Record) : Type 0 where
-  pub sets : SetsFigures (zoneAt before n) figures (zoneAt after n)
-  pub others : (m : ℕ) → (m ≡ n → ⊥) → zoneAt after m ≡ zoneAt before m
+pub record SetsOnly (given : Record) (n : ℕ) (figures : Figures) (left : Record) : Type 0 where
+  pub sets : SetsFigures (zoneAt given n) figures (zoneAt left n)
+  pub others : (m : ℕ) → (m ≡ n → ⊥) → zoneAt left m ≡ zoneAt given m
 
 -- whichever way it came, where it is answered as done
-pub record WriteStored (before : Record) (n : ℕ) (figures : Figures) (room : List ℕ) : Type 0 where
-  pub applied : Done before (quiet (apply n (Write figures))) → SetsOnly before n figures (after before (quiet (apply n (Write figures))))
-  pub as-line : carriesCommand textRoad (Write figures) ≡ true → Done before (inRoom (text n (lineOf (Write figures))) room)
-      → SetsOnly before n figures (after before (inRoom (text n (lineOf (Write figures))) room))
-  pub as-frame : Present before n → carriesCommand frameRoad (Write figures) ≡ true → Done before (inRoom (frame (frameOf (zoneAt before n .address) (Write figures))) room)
-      → SetsOnly before n figures (after before (inRoom (frame (frameOf (zoneAt before n .address) (Write figures))) room))
+pub record WriteStored (given : Record) (n : ℕ) (figures : Figures) (room : List ℕ) : Type 0 where
+  pub applied : Done given (quiet (apply n (Write figures))) → SetsOnly given n figures (after given (quiet (apply n (Write figures))))
+  pub as-line : carriesCommand textRoad (Write figures) ≡ true → Done given (inRoom (text n (lineOf (Write figures))) room)
+      → SetsOnly given n figures (after given (inRoom (text n (lineOf (Write figures))) room))
+  pub as-frame : Present given n → carriesCommand frameRoad (Write figures) ≡ true → Done given (inRoom (frame (frameOf (zoneAt given n .address) (Write figures))) room)
+      → SetsOnly given n figures (after given (inRoom (frame (frameOf (zoneAt given n .address) (Write figures))) room))
 
--- whatever came before: "every step starts from the record just handed back" (document 01). every-write-is-stored, in proofs/Useless.antt
+-- from whatever record, so from any that a session leaves: "every step starts from the record just handed back" (document 01). `every-write-is-stored`, in proofs/Useless.antt
 abbrev pub EveryWriteIsStored : Type 0
 EveryWriteIsStored = (r : Record) (calls : List Call) (n : ℕ) (figures : Figures) (room : List ℕ) → WriteStored (run r calls) n figures room
 
--- and whatever comes after: the figures of a present zone's group stay until a done write of that group to it, or its done removal. stays-stored, in proofs/Useless.antt
+-- and whatever comes after: the figures of a present zone's group stay until a done write of that group to it, or its done removal. `stays-stored`, in proofs/Useless.antt
 abbrev pub StaysStored : Type 0
 StaysStored = (r : Record) (n : ℕ) (group : Group) (calls : List Call) → zoneAt r n .present ≡ true → Throughout (NotRewritten n group) r calls
     → figuresOf (zoneAt (run r calls) n) group ≡ figuresOf (zoneAt r n) group

@@ -14,7 +14,7 @@ pub data Speaking : Type 0 where
   composeLine : Command → Speaking
   composeFrame : ℕ → Command → Speaking
 
--- a call that replies nothing
+-- a call without a room, which replies nothing; what it tells is handed back
 pub data Quiet : Type 0 where
   add : ℕ → ℕ → ℕ → Quiet
   remove : ℕ → Quiet

@@ -90,7 +90,7 @@ isDeadline (Window f) = false
 abbrev pub groupsZero : Zone → Bool
 groupsZero z = every (λ group. allZero (figuresOf z group)) everyGroup
 
--- the same as a test: an absent zone that passes it is the empty zone (absent-empty, in proofs/Sound.antt)
+-- "An absent zone holds nothing", as a test: an absent zone that passes it is emptyZone (absent-empty, in proofs/Sound.antt)
 abbrev pub holdsNothing : Zone → Bool
 holdsNothing z = isZero (z .address) && isZero (z .range) && isZero (z .status .actual) && groupsZero z && isOff (z .status .state) && isDeadline (z .watch)
 
