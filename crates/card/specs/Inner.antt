@@ -1,4 +1,4 @@
--- What the functions below the calls come to. No rule of document 01 stands here: the promises of the calls do not cite it.
+-- What the functions below the calls come to. No rule of document 01 stands here, and no promise of a call that document 01 names cites it; `ask`, which the roads call, is promised by askOf below.
 use Prim.Native.Nat.{ℕ}
 use mathlib.Core.Bool.{Bool, true, false, cond, not}
 use mathlib.Core.List.{[], _∷_}

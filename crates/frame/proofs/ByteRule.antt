@@ -10,6 +10,7 @@ use lib.Dec.{lit<}
 use lib.ListN.{length, drop, getD, length-append}
 use lib.Seq.{getD-append-seam, drop-cons}
 use Rattle.frame.specs.Frame.{bytesOf, numberAt}
+use Rattle.frame.specs.Rules.{Bytes}
 
 byte-pos : (w : ℕ) → 0 < 256 ^ w
 byte-pos w = pow-le-pow-right {n = 256} (lit< tt) {i = 0} {j = w} (omega arith)
@@ -30,10 +31,6 @@ number-mod (suc w) n pre rest =
 
 pub number-reads : (w n : ℕ) (pre rest : List ℕ) → n < 256 ^ w → numberAt w (pre ++ (bytesOf w n ++ rest)) (length pre) ≡ n
 number-reads w n pre rest h = number-mod w n pre rest ∙ mod-eq-of-lt h
-
--- a list of bytes
-abbrev pub Bytes : List ℕ → Type 0
-Bytes b = (i : ℕ) → getD b i 0 < 256
 
 pub number-only : (w at : ℕ) (b : List ℕ) → Bytes b → at + w ≤ length b
     → (drop at b ≡ bytesOf w (numberAt w b at) ++ drop (at + w) b) × (numberAt w b at < 256 ^ w)

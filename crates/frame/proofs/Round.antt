@@ -12,25 +12,26 @@ use borrow.Author.Tests.{ltb-true, ltb-false, eqb-true, leb-true}
 use Rattle.zone.specs.declared.figures.Group.{Group}
 use Rattle.zone.specs.declared.figures.Command.{Command}
 use Rattle.zone.specs.declared.figures.Command.the-variants.{Read, Write}
-use Rattle.zone.specs.Table.{Kind, bytes, index, everyGroup, everyForm}
+use Rattle.zone.specs.Table.{Kind, bytes, index, everyGroup}
 use Rattle.zone.specs.Figures.{groupOf}
 use Rattle.zone.proofs.Tests.{both}
 use Rattle.wire.specs.declared.Figure.the-variants.{Value}
 use Rattle.wire.specs.declared.Named.{Named}
 use Rattle.wire.specs.declared.Named.the-variants.{Is, NoGroup}
 use Rattle.wire.specs.declared.Parsed.the-variants.{Known}
-use Rattle.wire.specs.Road.{carriesCommand, lengthOf}
+use Rattle.wire.specs.Road.{carriesCommand}
 use Rattle.wire.proofs.Choices.{by-cond, unknown-never, nothing-never}
 use Rattle.wire.proofs.Layouts.{Lawful, Stands, write-reads, command-only}
 use Rattle.frame.specs.declared.reading.Framed.the-variants.{Request}
 use Rattle.frame.specs.Sum.{checksumOf}
 use Rattle.frame.specs.Frame.{bytesOf, numberAt, frameRoad, bodyOf, framed, frameOf, shaped, bodyIn, addressIn, checksumRight, firstIndexed, groupIndexed, indexedRead, bodyRead, frameRead}
+use Rattle.frame.specs.Rules.{FrameLengths, FrameReads, Bytes, ItsFrame, OnlyItsFrame}
 use Rattle.frame.proofs.Requests.{index-again}
 use Rattle.frame.proofs.Shape.{whole}
-use Rattle.frame.proofs.ByteRule.{bytes-length, number-reads, Bytes, number-only}
+use Rattle.frame.proofs.ByteRule.{bytes-length, number-reads, number-only}
 
 -- "L of a write is 8 for AHUE deadline, 10 for AHUE window, 5 for HZBG, 6 for RRUE, 5 for SOLW"
-pub frame-lengths : map (lengthOf frameRoad) everyForm ≡ 8 ∷ 10 ∷ 5 ∷ 6 ∷ 5 ∷ []
+pub frame-lengths : FrameLengths
 frame-lengths = refl
 
 -- ---- a single figure, there and back
@@ -100,7 +101,7 @@ address-is x (Read g) = refl
 address-is x (Write f) = refl
 
 -- "Given back, the bytes are that command with those figures, whatever ranges then say", to that address
-pub frame-reads : (x : ℕ) (c : Command) → carriesCommand frameRoad c ≡ true → frameRead (frameOf x c) ≡ Request x (Known c)
+pub frame-reads : FrameReads
 unfolding frameOf
 frame-reads x c h = framed-reads (bodyOf x c) (three x c) ∙ rw (address-is x c, body-reads x c h)
 
@@ -191,13 +192,8 @@ body-bytes f good i = by-place (ltb i (getD f 1 0)) refl
 body-first : (f : List ℕ) → 3 ≤ length (bodyIn f) → length (bodyIn f) ≡ getD f 1 0 → getD (bodyIn f) 0 0 ≡ addressIn f
 body-first f h e = getD-take (getD f 1 0) (drop 4 f) 0 0 (omega arith) ∙ getD-drop 4 f 0 0
 
--- what a frame that was read as a command must be
-pub record Frame (f : List ℕ) (x : ℕ) (c : Command) : Type 0 where
-  pub frame-is : f ≡ frameOf x c
-  pub carried : carriesCommand frameRoad c ≡ true
-
 -- what is read as a command to an address is exactly its frame, and the road carries its figures
-pub frame-only : (f : List ℕ) (x : ℕ) (c : Command) → Bytes f → frameRead f ≡ Request x (Known c) → Frame f x c
+pub frame-only : OnlyItsFrame
 unfolding frameRead frameOf
 frame-only f x c good h =
     by-cond (shaped f) h

@@ -14,6 +14,7 @@ use Rattle.wire.specs.declared.Figure.{Figure}
 use Rattle.wire.specs.declared.Figure.the-variants.{Value, Bad}
 use Rattle.line.specs.Field.{upToSpace, digitsBehind, digitsOf}
 use Rattle.line.specs.Line.{digitsFor}
+use Rattle.line.specs.Rules.{DigitField}
 
 pub ten-pos : (w : ℕ) → 0 < 10 ^ w
 ten-pos w = pow-le-pow-right {n = 10} (lit< tt) {i = 0} {j = w} (omega arith)
@@ -76,7 +77,7 @@ second-passed true g r h = (refl, h)
 second-passed false g r h = absurd (let z : _≡_ {A = ℕ} 0 1 = cc in omega arith)
 
 -- the rule: read as n exactly where the field is the `width` digits of n
-pub digit-field : (w : ℕ) (l : List ℕ) (n : ℕ) → (digitsOf w l ≡ Value n) ↔ ((l ≡ digitsFor w n) × (n < 10 ^ w))
+pub digit-field : DigitField
 digit-field w l n = (to, from)
   where
     to : digitsOf w l ≡ Value n → (l ≡ digitsFor w n) × (n < 10 ^ w)

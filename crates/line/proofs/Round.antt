@@ -13,21 +13,22 @@ use Rattle.zone.specs.declared.figures.Group.{Group}
 use Rattle.zone.specs.declared.figures.Group.the-variants.{Ahue, Hzbg, Rrue, Solw}
 use Rattle.zone.specs.declared.figures.Command.{Command}
 use Rattle.zone.specs.declared.figures.Command.the-variants.{Read, Write}
-use Rattle.zone.specs.Table.{Kind, digits, name, everyGroup, everyForm}
+use Rattle.zone.specs.Table.{Kind, digits, name, everyGroup}
 use Rattle.zone.specs.Figures.{groupOf}
 use Rattle.wire.specs.declared.Figure.the-variants.{Value}
 use Rattle.wire.specs.declared.Named.{Named}
 use Rattle.wire.specs.declared.Named.the-variants.{Is, NoGroup}
 use Rattle.wire.specs.declared.Parsed.the-variants.{Known}
-use Rattle.wire.specs.Road.{carriesCommand, figureBytes, lengthOf, commandRead}
+use Rattle.wire.specs.Road.{carriesCommand, figureBytes, commandRead}
 use Rattle.wire.proofs.Choices.{by-cond, unknown-never, nothing-never}
 use Rattle.wire.proofs.Layouts.{Lawful, Stands, write-reads, read-reads, command-only}
 use Rattle.line.specs.Field.{upToSpace, digitsOf, figureOf}
 use Rattle.line.specs.Line.{digitsFor, L, S, textRoad, lineOf, same, firstNamed, groupNamed, namedRead, lineRead}
+use Rattle.line.specs.Rules.{LineLengths, LineReads, ItsLine, OnlyItsLine}
 use Rattle.line.proofs.DigitRule.{digits-length, field-reads, digit-field}
 
 -- "So a write is 19 bytes for AHUE deadline, 23 for AHUE window, 9 for HZBG, 15 for RRUE, 9 for SOLW"
-pub line-lengths : map (lengthOf textRoad) everyForm ≡ 19 ∷ 23 ∷ 9 ∷ 15 ∷ 9 ∷ []
+pub line-lengths : LineLengths
 line-lengths = refl
 
 -- ---- a single figure, there and back
@@ -111,7 +112,7 @@ read-line g =
     ap lineRead (sym bare) ∙ named-reads L g [] ∙ read-reads textRoad lawful g (L ∷ (name g ++ [])) (ap length bare ∙ head-length L g)
 
 -- "Given back, the bytes are that command with those figures, whatever ranges then say"
-pub line-reads : (c : Command) → carriesCommand textRoad c ≡ true → lineRead (lineOf c) ≡ Known c
+pub line-reads : LineReads
 unfolding lineOf carriesCommand
 line-reads (Read g) h = read-line g
 line-reads (Write f) h = named-reads S (groupOf f) (figureBytes textRoad f) ∙ write-reads textRoad lawful f (S ∷ name (groupOf f)) (head-length S (groupOf f)) h
@@ -140,26 +141,21 @@ front : (l : List ℕ) (g : Group) → 5 ≤ length l → take 4 (drop 1 l) ≡ 
 front [] g h n = absurd (omega arith)
 front (y ∷ ys) g h n = ap (λ (t : List ℕ). y ∷ t) (sym (take-append-drop 4 ys) ∙ ap (λ (t : List ℕ). t ++ drop 4 ys) n)
 
--- what a line that was read as a command must be
-pub record Line (l : List ℕ) (c : Command) : Type 0 where
-  pub line-is : l ≡ lineOf c
-  pub carried : carriesCommand textRoad c ≡ true
-
-stands-line : (l : List ℕ) (g : Group) (c : Command) → l ≡ getD l 0 0 ∷ (name g ++ drop 5 l) → Stands textRoad lawful (getD l 0 0) g l c → Line l c
+stands-line : (l : List ℕ) (g : Group) (c : Command) → l ≡ getD l 0 0 ∷ (name g ++ drop 5 l) → Stands textRoad lawful (getD l 0 0) g l c → ItsLine l c
 unfolding lineOf carriesCommand
 stands-line l g (Read h) f s =
     let bare : drop 5 l ≡ [] = drop-of-length-le l {i = 5} (omega (arith, s .2)) in
     record { line-is = f ∙ rw (s .0, s .1, bare, append-nil); carried = refl }
 stands-line l g (Write h) f s = record { line-is = f ∙ rw (s .0, s .2, ← (s .1)); carried = s .3 }
 
-named-line : (n : Named) (l : List ℕ) (c : Command) → 5 ≤ length l → groupNamed (take 4 (drop 1 l)) ≡ n → namedRead n l ≡ Known c → Line l c
+named-line : (n : Named) (l : List ℕ) (c : Command) → 5 ≤ length l → groupNamed (take 4 (drop 1 l)) ≡ n → namedRead n l ≡ Known c → ItsLine l c
 unfolding groupNamed lawful
 named-line NoGroup l c long e h = unknown-never h
 named-line (Is g) l c long e h =
     stands-line l g c (front l g long (named-only everyGroup (take 4 (drop 1 l)) g e)) (command-only textRoad lawful (getD l 0 0) g l c tt h)
 
 -- what is read as a command is exactly the line of that command, and the road carries its figures
-pub line-only : (l : List ℕ) (c : Command) → lineRead l ≡ Known c → Line l c
+pub line-only : OnlyItsLine
 unfolding lineRead
 line-only l c h =
     by-cond (ltb (length l) 5) h

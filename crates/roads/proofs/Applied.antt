@@ -26,17 +26,17 @@ use Rattle.frame.proofs.Round.{frame-reads}
 use Rattle.roads.specs.Acknowledgements.{textReply, frameReply}
 use Rattle.roads.specs.Calls.{replyIn, textResult, inTextReply, answerText, frameResult, inFrameReply, answerFrame}
 use Rattle.roads.specs.Inner.{askedBy}
+use Rattle.roads.specs.Rules.{LineApplies, FrameApplies}
 use Rattle.roads.proofs.CallLaws.{asked-text, right-sum, held-right}
 
 ask-known : (r : Record) (n : ℕ) (c : Command) → askOf r n (asked.Sent c) ≡ applyOf r n c
 unfolding askOf applyOf
 ask-known r n c = refl
 
-pub text-applies : (r : Record) (n : ℕ) (c : Command) (room : List ℕ) → 32 ≤ length room → carriesCommand textRoad c ≡ true → textResult r n (lineOf c) room ≡ applyOf r n c
+pub text-applies : LineApplies
 text-applies r n c room h k = sym (asked-text r n (lineOf c) room h) ∙ ap (λ p. askOf r n (askedBy p)) (line-reads c k) ∙ ask-known r n c
 
-pub frame-applies : (r : Record) (n : ℕ) (c : Command) (room : List ℕ) → sound r ≡ true → zoneAt r n .present ≡ true → 32 ≤ length room → carriesCommand frameRoad c ≡ true
-    → frameResult r (frameOf (zoneAt r n .address) c) room ≡ applyOf r n c
+pub frame-applies : FrameApplies
 frame-applies r n c room s p h k =
     let f = frameOf (zoneAt r n .address) c in
     let q = right-sum f (zoneAt r n .address) (Known c) (frame-reads (zoneAt r n .address) c k) in

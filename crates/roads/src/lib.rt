@@ -1,8 +1,9 @@
 // The calls of the two roads: a text line to a zone, a binary frame on the shared pair, and composing
 // either.
 //
-// Nothing is asked of the caller: any record, any bytes and any room may be handed in. What is right is
-// written in specs/: Calls.antt has each call's refusals as a list in document 01's order, and
+// The four calls (text, frame, compose_line, compose_frame) ask nothing of the caller: any record, any
+// bytes and any room may be handed in. put_text and put_frame, which the log uses, ask for a room of 32
+// bytes. What is right is written in specs/: Calls.antt has each call's refusals as a list in document 01's order, and
 // Acknowledgements.antt what is answered on the wire.
 mod answering;
 mod calls;
