@@ -5,7 +5,7 @@ use crate::judging::judged;
 use crate::judging::place;
 use crate::judging::whom;
 use crate::numbers::digit_values;
-use crate::writing::put_output;
+use crate::writing::put_judged;
 use card::Found;
 use card::Record;
 ghost use mathlib.Core.Path.{_≡_};
@@ -89,8 +89,7 @@ fn lines(given: Record, block: &[u8], out: &mut [u8]) -> Done
         if verdict.alters() {
             r.zones[n] = verdict.after(z);
         }
-        let answer = verdict.answer();
-        filled = filled + put_output(entry, answer, &mut out[filled..]);
+        filled = filled + put_judged(entry, verdict, &mut out[filled..]);
         at = end + 1;
     }
     Done {

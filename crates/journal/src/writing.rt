@@ -2,12 +2,14 @@
 use crate::asking::Entry;
 use crate::numbers::put_hex;
 use card::Answer;
+use card::Verdict;
 use frame::Framed;
 ghost use mathlib.Core.Path.{_≡_};
 ghost use mathlib.Core.List.{[], _∷_, _++_};
 ghost use Prim.Native.Nat.{_≤_, _<_};
 ghost use lib.ListN.{length};
 ghost use Rattle.card.specs.Answers.{numberOf, valuesOf};
+ghost use Rattle.card.specs.Inner.{answerBy};
 ghost use Rattle.wire.specs.Room.{Filled};
 ghost use Rattle.roads.specs.Acknowledgements.{textReply, frameReply};
 ghost use Rattle.journal.specs.Numbers.{numberDigits, inHex};
@@ -106,7 +108,7 @@ fn put_reply(entry: Entry, answer: Answer, room: &mut [u8]) -> usize
 }
 
 // Letter, number and reply, parted by tabs, and a line feed; never more than 40 bytes.
-pub fn put_output(entry: Entry, answer: Answer, room: &mut [u8]) -> usize
+fn put_output(entry: Entry, answer: Answer, room: &mut [u8]) -> usize
     requires { ⌜ 40 ≤ length (now room) ⌝ }
     ensures { λ r. ⌜ Filled (outputOf entry (numberOf answer) (valuesOf answer)) (now (room .entry)) (now (room .exit)) r ⌝ }
     ensures { λ r. ⌜ r ≤ 40 ⌝ }
@@ -116,4 +118,13 @@ pub fn put_output(entry: Entry, answer: Answer, room: &mut [u8]) -> usize
     let end = k + n;
     room[end] = b'\n';
     end + 1
+}
+
+// The same, for an entry as it was judged.
+pub fn put_judged(entry: Entry, verdict: Verdict, room: &mut [u8]) -> usize
+    requires { ⌜ 40 ≤ length (now room) ⌝ }
+    ensures { λ r. ⌜ Filled (outputOf entry (numberOf (answerBy verdict)) (valuesOf (answerBy verdict))) (now (room .entry)) (now (room .exit)) r ⌝ }
+    ensures { λ r. ⌜ r ≤ 40 ⌝ }
+{
+    put_output(entry, verdict.answer(), room)
 }
