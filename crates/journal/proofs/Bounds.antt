@@ -20,8 +20,9 @@ use Rattle.frame.specs.declared.reading.Framed.the-variants.{NoFrame, BadSum, R
 use Rattle.frame.specs.Frame.{shaped, frameRead}
 use Rattle.roads.proofs.CallLaws.{bad-sum, right-sum}
 use Rattle.journal.specs.declared.asking.Entry.{Entry}
-use Rattle.journal.specs.Numbers.{decimalOf, digitRead, byteRead, bytesRead}
-use Rattle.journal.specs.Lines.{Asks, adds, removes, reports, says, frames, unreadable, N, X, M, T, F, tab, field, onward, decimals, addAsks, removeAsks, reportAsks, textTo, textAsks, bytesAsk, frameAsks, tooLong, shortAsks, asksOf}
+use Rattle.texts.specs.Numbers.{decimalOf, digitRead, byteRead, bytesRead}
+use Rattle.texts.specs.Texts.{tab, field, onward}
+use Rattle.journal.specs.Lines.{Asks, adds, removes, reports, says, frames, unreadable, N, X, M, T, F, decimals, addAsks, removeAsks, reportAsks, textTo, textAsks, bytesAsk, frameAsks, tooLong, shortAsks, asksOf}
 use Rattle.journal.specs.Journal.{orDash, outputLine}
 use Rattle.journal.specs.Inner.{entryOf, letterOf, frameReplied, replyOf, outputOf}
 use Rattle.journal.proofs.Outputs.{decimal-fits, text-fits, framed-fits}

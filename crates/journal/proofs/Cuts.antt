@@ -23,12 +23,13 @@ use Rattle.frame.specs.Frame.{groupIndexed, bodyRead}
 use Rattle.roads.specs.Acknowledgements.{textReply, frameReply}
 use Rattle.roads.specs.Calls.{answerText, answerFrame}
 use Rattle.session.specs.Sessions.{run}
-use Rattle.journal.specs.Numbers.{decimalOf, bytesRead, inHex}
+use Rattle.texts.specs.Numbers.{decimalOf, bytesRead, inHex}
 use Rattle.journal.specs.Lines.{Asks, adds, removes, reports, says, frames, unreadable, decimals, textAsks, frameAsks, asksOf}
-use Rattle.journal.specs.Journal.{lineFeed, Yield, yieldOf, lineYields, linesYield, callOf, callsIn}
-use Rattle.journal.specs.Blocks.{endedBehind, begunBehind, ended, begun, unended, linesOf, logOf, fed, closed, blocksYield, joined}
+use Rattle.texts.specs.Texts.{lineFeed, endedBehind, begunBehind, ended, begun, unended, linesOf}
+use Rattle.journal.specs.Journal.{Yield, yieldOf, lineYields, linesYield, callOf, callsIn}
+use Rattle.journal.specs.Blocks.{logOf, fed, closed, blocksYield, joined}
 use Rattle.journal.proofs.Fields.{line-long}
-use Rattle.journal.proofs.Parts.{by-test, ended-append, begun-append, Plain, none, plain-ended, plain-begun, plain-take, begun-plain}
+use Rattle.texts.proofs.Parts.{by-test, ended-append, begun-append, Plain, none, plain-ended, plain-begun, plain-take, begun-plain, last-lacks}
 
 -- ---- lines in two parts
 
@@ -101,7 +102,7 @@ unfolding endedBehind
 last-alike r [] [] p e = refl
 last-alike r [] (y ∷ behind) p e = absurd (let z : _≡_ {A = ℕ} 0 1 = cc in omega arith)
 last-alike r (x ∷ held) [] p e = absurd (let z : _≡_ {A = ℕ} 0 1 = cc in omega arith)
-last-alike r (x ∷ held) (y ∷ behind) p e = ap (linesYield r) (ended-held (x ∷ held) (lineFeed ∷ []) p) ∙ line-alike r (x ∷ held) (y ∷ behind) [] e
+last-alike r (x ∷ held) (y ∷ behind) p e = ap (linesYield r) (sym (last-lacks x held p)) ∙ line-alike r (x ∷ held) (y ∷ behind) [] e
 
 -- `behind` is the line under way, whole, and `held` what is kept of it
 by-blocks : (r : Record) (held behind : List ℕ) (blocks : List (List ℕ)) → Plain held → Alike held behind

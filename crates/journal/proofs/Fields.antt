@@ -1,48 +1,24 @@
 -- Laws of a line, as its readers cite them: a decimal behind a tab and what follows it, a triple, a command's text, a frame's digits, the letter. Assumes nothing.
 use mathlib.Core.Path.{_≡_, refl, _∙_}
-use mathlib.Core.Bool.{Bool, true, false, cond}
 use mathlib.Core.List.{List, [], _∷_}
 use Prim.Native.Nat.{ℕ, suc, _+_, _-_, _≤_, _<_}
 use native.Mathlib.Omega.{arith}
-use native.Mathlib.Nat.{add-zero}
 use native.Mathlib.Numerals.{add-one}
 use lib.ListN.{length, getD, take, drop, length-drop, drop-of-length-le}
-use lib.Dec.{eqb}
-use lib.Seq.{drop-cons, drop-drop, getD-drop}
+use lib.Seq.{drop-cons}
 use borrow.Rule.Slice.PartAt.{part-to-end}
 use borrow.Author.Tests.{eq-eqb, ne-eqb, lt-ltb, le-ltb}
-use Rattle.bytes.specs.Bytes.{indexOf}
 use Rattle.wire.specs.declared.Figure.{Figure}
-use Rattle.wire.specs.declared.Figure.the-variants.{Value, Bad}
+use Rattle.wire.specs.declared.Figure.the-variants.{Value}
 use Rattle.wire.specs.Road.{Numbers, are, none, join}
-use Rattle.journal.specs.declared.numbers.Numeral.{Numeral}
-use Rattle.journal.specs.declared.numbers.Numeral.the-variants as numeral
+use Rattle.texts.specs.declared.decimals.Numeral.the-variants as numeral
 use Rattle.journal.specs.declared.asking.Triple.the-variants as triple
-use Rattle.journal.specs.Numbers.{decimalOf, bytesRead}
-use Rattle.journal.specs.Lines.{adds, reports, says, unreadable, tab, field, onward, decimals, addAsks, reportAsks, textTo, textAsks, bytesAsk, frameAsks, letterAsks, asksOf}
-use Rattle.journal.specs.Inner.{numeralOf, numeralAt, tripleOf}
-
--- `g` makes something of a decimal and of what follows it, and of no decimal always the same. `made` takes both from a numeral, `opened` from
--- the list that begins with the tab: `behind` says that they agree.
-module _ {A : Type 0} (g : Figure → List ℕ → A) where
-  abbrev made : List ℕ → Numeral → A
-  made l numeral.Bad = g Bad []
-  made l (numeral.Is v e) = g (Value v) (drop e l)
-
-  chosen : ((d : List ℕ) → g Bad d ≡ g Bad []) → (l : List ℕ) (e : ℕ) (t : Bool) (f : Figure)
-      → cond t (g f (drop e l)) (g Bad []) ≡ made l (cond t (numeralOf f e) numeral.Bad)
-  chosen h l e true (Value v) = refl
-  chosen h l e true Bad = h (drop e l)
-  chosen h l e false f = refl
-
-  abbrev opened : List ℕ → A
-  opened d = cond (eqb (getD d 0 0) tab) (g (decimalOf (field (drop 1 d))) (onward (drop 1 d))) (g Bad [])
-
-  behind : ((d : List ℕ) → g Bad d ≡ g Bad []) → (l : List ℕ) (at : ℕ) → opened (drop at l) ≡ made l (numeralAt l at)
-  unfolding numeralAt
-  behind h l at =
-      rw (getD-drop at l 0 0, add-zero at, drop-drop 1 at l, drop-drop (indexOf tab (drop (at + 1) l)) (at + 1) l)
-      (chosen h l (at + 1 + indexOf tab (drop (at + 1) l)) (eqb (getD l at 0) tab) (decimalOf (field (drop (at + 1) l))))
+use Rattle.texts.specs.Numbers.{bytesRead}
+use Rattle.texts.specs.Texts.{tab}
+use Rattle.journal.specs.Lines.{adds, reports, says, unreadable, decimals, addAsks, reportAsks, textTo, textAsks, bytesAsk, frameAsks, letterAsks, asksOf}
+use Rattle.texts.specs.Inner.{numeralAt}
+use Rattle.journal.specs.Inner.{tripleOf}
+use Rattle.texts.proofs.Fields.{opened, behind}
 
 -- decimals, one at a time
 abbrev joined : ℕ → Figure → List ℕ → Numbers

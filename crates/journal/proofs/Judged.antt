@@ -41,7 +41,7 @@ use Rattle.session.specs.Sessions.{text, frame, add, remove, report, inRoom, qu
 use Rattle.session.proofs.Demand3.{stays-sound}
 use Rattle.journal.specs.declared.asking.Entry.{Entry}
 use Rattle.journal.specs.declared.asking.Entry.the-variants.{Add, Remove, Report, Text, Frame, Unreadable}
-use Rattle.journal.specs.Numbers.{inHex}
+use Rattle.texts.specs.Numbers.{inHex}
 use Rattle.journal.specs.Lines.{F, Asks, adds, removes, reports, says, frames, unreadable, asksOf}
 use Rattle.journal.specs.Journal.{lent, outputLine, Yield, yieldOf, lineYields}
 use Rattle.journal.specs.Inner.{entryOf, frameSought, soughtOf, lookUp, oneOfSixteen, placeOf, missing, unless, askedOfHolder, askedFramed, entryJudged, unfitOf, frameReplied, outputOf}

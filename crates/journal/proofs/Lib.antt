@@ -1,11 +1,8 @@
-pub mod Decimals
-pub mod Hex
 pub mod Fields
 pub mod Judged
 pub mod Scans
 pub mod Outputs
 pub mod Bounds
-pub mod Parts
 pub mod Texts
 pub mod Cuts
 pub mod Unique

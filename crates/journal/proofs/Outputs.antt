@@ -31,10 +31,10 @@ use Rattle.roads.specs.declared.answering.Reply.the-variants.{Nothing, Acknowle
 use Rattle.roads.specs.Acknowledgements.{textOf, functionOf, replyTo, inText, textDone, textReply, inFrame, frameDone, frameReply}
 use Rattle.journal.specs.declared.asking.Entry.{Entry}
 use Rattle.journal.specs.declared.asking.Entry.the-variants.{Add, Remove, Report, Text, Frame, Unreadable}
-use Rattle.journal.specs.Numbers.{numberDigits, inHex}
-use Rattle.journal.specs.Lines.{tab}
-use Rattle.journal.specs.Journal.{lineFeed, orDash, outputLine}
-use Rattle.journal.proofs.Hex.{hex-length}
+use Rattle.texts.specs.Numbers.{inHex}
+use Rattle.journal.specs.Journal.{numberDigits, orDash, outputLine}
+use Rattle.texts.specs.Texts.{tab, lineFeed}
+use Rattle.texts.proofs.Hex.{hex-length}
 use Rattle.journal.specs.Inner.{frameReplied, replyOf}
 
 -- ---- how long the parts are

@@ -1,4 +1,4 @@
--- What the loops over a block's bytes cite: the search for a line feed, and bytes moved to the front. Assumes nothing.
+-- What the loop that keeps the end of a block cites: bytes from index `at` on, moved to the front one by one. Assumes nothing.
 use Prim.Native.Nat.{ℕ, suc, _+_, _-_, _≤_, _<_, min}
 use mathlib.Core.Path.{_≡_, refl, sym, ap, _∙_}
 use mathlib.Core.List.{List, _++_}
@@ -6,29 +6,10 @@ use mathlib.Core.Bool.{Bool, true, false}
 use native.Mathlib.Nat.{min-eq-left, min-eq-right, min-le-left, min-le-right}
 use native.Mathlib.Omega.{arith}
 use native.Mathlib.Numerals.{add-one}
-use lib.ListN.{length, take, drop, getD, set, length-take, length-drop, drop-of-length-le}
+use lib.ListN.{length, take, drop, getD, set, length-take, length-drop}
 use lib.Seq.{drop-cons, take-suc, take-all, take-take, take-add, length-take-le, getD-drop, getD-append-add, set-at, append-snoc, take-at, drop-at}
 use lib.Dec.{leb}
-use borrow.Author.Tests.{eq-eqb, ne-eqb, leb-true, leb-false}
-use Rattle.bytes.specs.Bytes.{indexOf, indexAfter}
-use Rattle.journal.specs.Journal.{lineFeed}
-
--- ---- the first line feed from index i on
-
-pub feed-here : (l : List ℕ) (i : ℕ) → i < length l → getD l i 0 ≡ lineFeed → i + indexOf lineFeed (drop i l) ≡ i
-unfolding indexOf indexAfter
-feed-here l i h e = rw (drop-cons l i 0 h, eq-eqb _ _ e) (omega arith)
-
--- k is the index behind i
-pub feed-later : (l : List ℕ) (i k : ℕ) → k ≡ i + 1 → i < length l → (getD l i 0 ≡ lineFeed → ⊥) → i + indexOf lineFeed (drop i l) ≡ k + indexOf lineFeed (drop k l)
-unfolding indexOf indexAfter
-feed-later l i k q h e = rw (q, add-one, drop-cons l i 0 h, ne-eqb _ _ e) (omega arith)
-
-pub feed-nowhere : (l : List ℕ) (i : ℕ) → length l ≤ i → i + indexOf lineFeed (drop i l) ≡ i
-unfolding indexOf
-feed-nowhere l i h = rw (drop-of-length-le l h) (omega arith)
-
--- ---- bytes from index `at` on, moved to the front one by one
+use borrow.Author.Tests.{leb-true, leb-false}
 
 pub moved-none : (b : List ℕ) (at : ℕ) → b ≡ take 0 (drop at b) ++ drop 0 b
 moved-none b at = refl

@@ -1,46 +1,19 @@
--- The lines of a text, one turn of the loop at a time. Assumes nothing.
-use Prim.Native.Nat.{ℕ, suc, _+_, _-_, _*_, _≤_, _<_}
+-- One turn of the loop at a time: what is written behind the output so far, and the lines of the block that are still to come. Assumes nothing.
+use Prim.Native.Nat.{ℕ, _+_, _-_, _*_, _≤_}
 use mathlib.Core.Path.{_≡_, refl, _∙_}
 use mathlib.Core.List.{List, [], _∷_, _++_, append-assoc, append-nil}
 use native.Mathlib.Omega.{arith}
 use lib.ListN.{length, take, drop, length-append, length-drop}
-use lib.Seq.{take-all, take-length, length-take-le, take-at, drop-drop}
+use lib.Seq.{take-all, take-length, length-take-le, take-at}
 use borrow.Rule.Slice.PartMut.{putMid}
-use Rattle.bytes.specs.Bytes.{indexOf}
 use Rattle.card.specs.declared.records.Record.{Record}
 use Rattle.wire.specs.Room.{placed, Filled}
 use Rattle.wire.proofs.Room.{lent-part}
-use Rattle.journal.specs.Journal.{lineFeed, lineYields, linesYield}
+use Rattle.texts.specs.Texts.{ended, begun}
+use Rattle.journal.specs.Journal.{lineYields, linesYield}
 use Rattle.journal.specs.declared.blocks.Done.{Done}
-use Rattle.journal.specs.Blocks.{ended, begun, fed, keptSeen}
+use Rattle.journal.specs.Blocks.{fed, keptSeen}
 use Rattle.journal.specs.Inner.{Worked}
-use Rattle.journal.proofs.Parts.{plain-ended, plain-begun, no-feed, ended-line, begun-line}
-
--- ---- one turn: the line from `at` to the line feed at `end`
-
-module _ (block : List ℕ) (at end : ℕ) (h : at ≤ length block) (e : end ≡ at + indexOf lineFeed (drop at block)) where
-  some-feed : end < length block → indexOf lineFeed (drop at block) < length (drop at block)
-  some-feed k = rw length-drop (omega arith)
-
-  behind : drop (suc (indexOf lineFeed (drop at block))) (drop at block) ≡ drop (end + 1) block
-  behind =
-      let n : at + suc (indexOf lineFeed (drop at block)) ≡ end + 1 = omega arith in
-      drop-drop (suc (indexOf lineFeed (drop at block))) at block ∙ rw n
-
-  width : indexOf lineFeed (drop at block) ≡ end - at
-  width = omega arith
-
-  pub turn-ended : end < length block → ended (drop at block) ≡ take (end - at) (drop at block) ∷ ended (drop (end + 1) block)
-  turn-ended k = ended-line (drop at block) (some-feed k) ∙ rw (behind, width)
-
-  pub turn-begun : end < length block → begun (drop at block) ≡ begun (drop (end + 1) block)
-  turn-begun k = begun-line (drop at block) (some-feed k) ∙ rw behind
-
-  pub last-ended : length block ≤ end → ended (drop at block) ≡ []
-  last-ended k = plain-ended [] (no-feed (drop at block) (rw length-drop (omega arith)))
-
-  pub last-begun : length block ≤ end → begun (drop at block) ≡ drop at block
-  last-begun k = plain-begun [] (no-feed (drop at block) (rw length-drop (omega arith)))
 
 -- ---- what was written behind the output so far
 

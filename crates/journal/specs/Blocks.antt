@@ -1,40 +1,13 @@
 -- A whole log, and a log that comes in blocks.
 use Prim.Native.Nat.{ℕ, suc}
-use mathlib.Core.Bool.{cond}
 use mathlib.Core.List.{List, [], _∷_, _++_}
 use lib.ListN.{take}
-use lib.Dec.{eqb}
 use Rattle.card.specs.declared.records.Record.{Record}
 use Rattle.card.specs.Records.{emptyRecord}
+use Rattle.texts.specs.Texts.{lineFeed, ended, begun, linesOf}
 use Rattle.journal.specs.declared.blocks.Kept.{Kept}
 use Rattle.journal.specs.Lines.{longest}
-use Rattle.journal.specs.Journal.{lineFeed, linesYield}
-
--- ---- the lines of a text
-
--- the lines of a text that are "ended by a line feed"; `soFar` is what the first of them has already
-unfoldable pub endedBehind : List ℕ → List ℕ → List (List ℕ)
-endedBehind soFar [] = []
-endedBehind soFar (x ∷ text) = cond (eqb x lineFeed) (soFar ∷ endedBehind [] text) (endedBehind (soFar ++ (x ∷ [])) text)
-
--- and what the line under way has at the end of the text
-unfoldable pub begunBehind : List ℕ → List ℕ → List ℕ
-begunBehind soFar [] = soFar
-begunBehind soFar (x ∷ text) = cond (eqb x lineFeed) (begunBehind [] text) (begunBehind (soFar ++ (x ∷ [])) text)
-
-abbrev pub ended : List ℕ → List (List ℕ)
-ended text = endedBehind [] text
-
-abbrev pub begun : List ℕ → List ℕ
-begun text = begunBehind [] text
-
--- "A last line may lack its line end"; where nothing stands behind the last line feed there is no further line
-abbrev pub unended : List ℕ → List (List ℕ)
-unended [] = []
-unended (x ∷ line) = (x ∷ line) ∷ []
-
-abbrev pub linesOf : List ℕ → List (List ℕ)
-linesOf text = ended text ++ unended (begun text)
+use Rattle.journal.specs.Journal.{linesYield}
 
 -- what the program writes, for the whole of its input: "It reads standard input from an empty record"
 unfoldable pub logOf : List ℕ → List ℕ

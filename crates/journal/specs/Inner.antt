@@ -1,11 +1,10 @@
 -- What the functions on the way come to. Everything here restates Lines, Journal or Blocks for such a function, and is proved equal to it; no promise of `feed` cites it.
-use Prim.Native.Nat.{ℕ, zero, suc, _+_, _*_, _≤_}
+use Prim.Native.Nat.{ℕ, _*_, _≤_}
 use mathlib.Core.Path.{_≡_}
 use mathlib.Core.Bool.{Bool, cond, not, _||_}
 use mathlib.Core.List.{List, [], _∷_}
 use lib.ListN.{length, getD, take, drop}
-use lib.Dec.{leb, ltb, eqb}
-use Rattle.bytes.specs.Bytes.{indexOf}
+use lib.Dec.{leb, ltb}
 use Rattle.zone.specs.declared.figures.Figures.{Figures}
 use Rattle.zone.specs.declared.zones.Zone.{Zone}
 use Rattle.card.specs.declared.answers.Refusal.{Refusal}
@@ -19,8 +18,6 @@ use Rattle.card.specs.Refusals.{Row, _gives_}
 use Rattle.card.specs.Records.{findOf}
 use Rattle.card.specs.Calls.{Judgement, addAt, removeAt, reportAt}
 use Rattle.card.specs.Inner.{askAt}
-use Rattle.wire.specs.declared.Figure.{Figure}
-use Rattle.wire.specs.declared.Figure.the-variants.{Value, Bad}
 use Rattle.wire.specs.declared.Parsed.{Parsed}
 use Rattle.wire.specs.Road.{Numbers, are, none}
 use Rattle.line.specs.Line.{lineRead}
@@ -30,10 +27,6 @@ use Rattle.frame.specs.Frame.{frameRead}
 use Rattle.roads.specs.Acknowledgements.{textReply, frameReply}
 use Rattle.roads.specs.Calls.{isNowhere, zoneFound}
 use Rattle.roads.specs.Inner.{askedBy}
-use Rattle.journal.specs.declared.numbers.Numeral.{Numeral}
-use Rattle.journal.specs.declared.numbers.Numeral.the-variants as numeral
-use Rattle.journal.specs.declared.numbers.Count.{Count}
-use Rattle.journal.specs.declared.numbers.Count.the-variants as count
 use Rattle.journal.specs.declared.asking.Triple.{Triple}
 use Rattle.journal.specs.declared.asking.Triple.the-variants as triple
 use Rattle.journal.specs.declared.asking.Entry.{Entry}
@@ -41,46 +34,12 @@ use Rattle.journal.specs.declared.asking.Entry.the-variants.{Add, Remove
 use Rattle.journal.specs.declared.judging.Sought.{Sought}
 use Rattle.journal.specs.declared.judging.Sought.the-variants.{Nobody, Address}
 use Rattle.journal.specs.declared.blocks.Done.{Done}
-use Rattle.journal.specs.Numbers.{decimalOf, digitRead, inHex}
-use Rattle.journal.specs.Lines.{Asks, adds, removes, reports, says, frames, unreadable, N, X, M, T, F, E, tab, field}
+use Rattle.texts.specs.Numbers.{inHex}
+use Rattle.texts.specs.Texts.{ended, begun}
+use Rattle.journal.specs.Lines.{Asks, adds, removes, reports, says, frames, unreadable, N, X, M, T, F, E}
 use Rattle.journal.specs.Journal.{outputLine, linesYield}
-use Rattle.journal.specs.Blocks.{ended, begun}
 
 -- ---- reading
-
--- a decimal that ends before index `end`
-abbrev pub numeralOf : Figure → ℕ → Numeral
-numeralOf Bad end = numeral.Bad
-numeralOf (Value n) end = numeral.Is n end
-
--- the decimal behind a tab at index `at`
-unfoldable pub numeralAt : List ℕ → ℕ → Numeral
-numeralAt l at = cond (eqb (getD l at 0) tab) (numeralOf (decimalOf (field (drop (at + 1) l))) (at + 1 + indexOf tab (drop (at + 1) l))) numeral.Bad
-
--- what each byte is as a digit: its value, or 16 where it is none
-abbrev pub orSixteen : Figure → ℕ
-orSixteen (Value n) = n
-orSixteen Bad = 16
-
-abbrev pub digitValue : ℕ → ℕ
-digitValue d = orSixteen (digitRead d)
-
-abbrev pub valuesFrom : ℕ → ℕ → List ℕ
-valuesFrom d zero = []
-valuesFrom d (suc k) = digitValue d ∷ valuesFrom (suc d) k
-
--- the same for each of the 256 bytes, as a table
-unfoldable pub digitValues : List ℕ
-digitValues = valuesFrom 0 256
-
--- the bytes that pairs of digits made, at the front of a room
-abbrev pub counted : Count → List ℕ → Numbers
-counted count.Bad room = none
-counted (count.Of n) room = are (take n room)
-
-abbrev pub countOf : Count → ℕ
-countOf count.Bad = 0
-countOf (count.Of n) = n
 
 abbrev pub tripleOf : Numbers → Triple
 tripleOf none = triple.Bad

@@ -1,19 +1,24 @@
 -- What a line of the log yields, and what it leaves: a line and a record give the output line and the record afterwards.
 use Prim.Native.Nat.{ℕ}
+use mathlib.Core.Bool.{cond}
 use mathlib.Core.List.{List, [], _∷_, _++_}
 use lib.ListN.{replicate}
+use lib.Dec.{ltb}
 use Rattle.card.specs.declared.records.Record.{Record}
+use Rattle.line.specs.Line.{digitsFor}
 use Rattle.roads.specs.Calls.{Answered, replyIn}
 use Rattle.session.specs.Sessions.{text, frame, add, remove, report, Call, inRoom, quiet, answerTo}
-use Rattle.journal.specs.Numbers.{numberDigits, inHex}
-use Rattle.journal.specs.Lines.{Asks, adds, removes, reports, says, frames, unreadable, N, X, M, T, F, E, tab, asksOf}
-
-abbrev pub lineFeed : ℕ
-lineFeed = 10
+use Rattle.texts.specs.Numbers.{inHex}
+use Rattle.texts.specs.Texts.{lineFeed, tab}
+use Rattle.journal.specs.Lines.{Asks, adds, removes, reports, says, frames, unreadable, N, X, M, T, F, E, asksOf}
 
 -- "Room is always 32"; what the room held before is not shown
 abbrev pub lent : List ℕ
 lent = replicate 32 0
+
+-- the digits of an answer number, all of which are below 100
+abbrev pub numberDigits : ℕ → List ℕ
+numberDigits n = cond (ltb n 10) (digitsFor 1 n) (digitsFor 2 n)
 
 -- "the reply .. or "-""
 abbrev pub orDash : List ℕ → List ℕ

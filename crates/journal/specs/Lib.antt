@@ -1,5 +1,4 @@
--- The log: document 01, "The log program". Start with Lines, then Numbers, Journal and Blocks; Inner has the steps on the way, which nobody has to believe.
-pub mod Numbers
+-- The log: document 01, "The log program". Start with Texts and Numbers of texts, then Lines, Journal and Blocks; Inner has the steps on the way, which nobody has to believe.
 pub mod Lines
 pub mod Journal
 pub mod Blocks

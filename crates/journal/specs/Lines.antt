@@ -2,13 +2,13 @@
 use Prim.Native.Nat.{ℕ, zero, suc}
 use mathlib.Core.Bool.{Bool, cond}
 use mathlib.Core.List.{List, [], _∷_}
-use lib.ListN.{length, getD, take, drop}
+use lib.ListN.{length, getD}
 use lib.Dec.{ltb, eqb}
-use Rattle.bytes.specs.Bytes.{indexOf}
 use Rattle.wire.specs.declared.Figure.{Figure}
 use Rattle.wire.specs.declared.Figure.the-variants.{Value, Bad}
 use Rattle.wire.specs.Road.{Numbers, are, none, join}
-use Rattle.journal.specs.Numbers.{decimalOf, bytesRead}
+use Rattle.texts.specs.Numbers.{decimalOf, bytesRead}
+use Rattle.texts.specs.Texts.{tab, field, onward}
 
 pub data Asks : Type 0 where
   -- "N zone address range adds"
@@ -42,16 +42,6 @@ F = 70
 
 abbrev pub E : ℕ
 E = 69
-
-abbrev pub tab : ℕ
-tab = 9
-
--- "fields parted by tabs": the bytes up to the first tab, and what stands from that tab on; where there is no tab, all the bytes, and nothing
-abbrev pub field : List ℕ → List ℕ
-field l = take (indexOf tab l) l
-
-abbrev pub onward : List ℕ → List ℕ
-onward l = drop (indexOf tab l) l
 
 -- so many decimals, each behind a tab, and nothing more
 unfoldable pub decimals : ℕ → List ℕ → Numbers

@@ -1,15 +1,16 @@
 // What a line of the log asks.
-use crate::numbers::Count;
-use crate::numbers::Numeral;
-use crate::numbers::behind_tab;
-use crate::numbers::unhex;
 use frame::Framed;
+use texts::Count;
+use texts::Numeral;
+use texts::behind_tab;
+use texts::unhex;
 use wire::Parsed;
 ghost use mathlib.Core.Path.{_≡_};
 ghost use Prim.Native.Nat.{_≤_};
 ghost use lib.ListN.{length, drop};
 ghost use Rattle.journal.specs.Lines.{decimals, addAsks, removeAsks, reportAsks, textAsks, frameAsks, asksOf};
-ghost use Rattle.journal.specs.Inner.{digitValues, tripleOf, entryOf};
+ghost use Rattle.texts.specs.Inner.{digitValues};
+ghost use Rattle.journal.specs.Inner.{tripleOf, entryOf};
 
 // The letters N, X, M, T and F, and every other line; a command or a frame has been read.
 pub enum Entry {

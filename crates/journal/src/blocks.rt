@@ -4,15 +4,14 @@ use crate::judging::Sought;
 use crate::judging::judged;
 use crate::judging::place;
 use crate::judging::whom;
-use crate::numbers::digit_values;
 use crate::writing::put_judged;
 use card::Found;
 use card::Record;
+use texts::digit_values;
+use texts::line_end;
 ghost use mathlib.Core.Path.{_≡_};
 ghost use Prim.Native.Nat.{_+_, _*_, _≤_, min};
 ghost use lib.ListN.{length, take, drop};
-ghost use Rattle.bytes.specs.Bytes.{indexOf};
-ghost use Rattle.journal.specs.Journal.{lineFeed};
 ghost use Rattle.journal.specs.Blocks.{fed, keptSeen};
 ghost use Rattle.journal.specs.Inner.{Worked};
 
@@ -28,37 +27,6 @@ pub struct Kept {
     pub after: Record,
     pub held: usize,
     pub filled: usize,
-}
-
-// The index of the first line feed from `from` on, or the block's length. Four bytes are looked at in a
-// turn, which is faster than one, and the last ones singly.
-fn line_end(block: &[u8], from: usize) -> usize
-    requires { ⌜ from ≤ length (now block) ⌝ }
-    ensures { λ r. ⌜ r ≡ from + indexOf lineFeed (drop from (now (block .entry))) ⌝ }
-{
-    let mut i = from;
-    while 4 <= block.len() - i {
-        if block[i] == b'\n' {
-            return i;
-        }
-        if block[i + 1] == b'\n' {
-            return i + 1;
-        }
-        if block[i + 2] == b'\n' {
-            return i + 2;
-        }
-        if block[i + 3] == b'\n' {
-            return i + 3;
-        }
-        i += 4;
-    }
-    while i < block.len() {
-        if block[i] == b'\n' {
-            return i;
-        }
-        i += 1;
-    }
-    i
 }
 
 // Answers every line of the block that is ended. Soundness is tested once: a line leaves a sound record

@@ -6,7 +6,6 @@
 mod asking;
 mod blocks;
 mod judging;
-mod numbers;
 mod writing;
 
 pub use blocks::Kept;

@@ -1,9 +1,9 @@
 // The line that is written for an entry, at the front of a lent room.
 use crate::asking::Entry;
-use crate::numbers::put_hex;
 use card::Answer;
 use card::Verdict;
 use frame::Framed;
+use texts::put_hex;
 ghost use mathlib.Core.Path.{_≡_};
 ghost use mathlib.Core.List.{[], _∷_, _++_};
 ghost use Prim.Native.Nat.{_≤_, _<_};
@@ -12,9 +12,9 @@ ghost use Rattle.card.specs.Answers.{numberOf, valuesOf};
 ghost use Rattle.card.specs.Inner.{answerBy};
 ghost use Rattle.wire.specs.Room.{Filled};
 ghost use Rattle.roads.specs.Acknowledgements.{textReply, frameReply};
-ghost use Rattle.journal.specs.Numbers.{numberDigits, inHex};
-ghost use Rattle.journal.specs.Lines.{tab};
-ghost use Rattle.journal.specs.Journal.{orDash};
+ghost use Rattle.texts.specs.Numbers.{inHex};
+ghost use Rattle.journal.specs.Journal.{numberDigits, orDash};
+ghost use Rattle.texts.specs.Texts.{tab};
 ghost use Rattle.journal.specs.Inner.{letterOf, replyOf, frameReplied, outputOf};
 
 fn letter(entry: Entry) -> u8

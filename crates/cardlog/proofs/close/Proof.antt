@@ -7,7 +7,7 @@ use native.Mathlib.Numerals.{add-one}
 use denote.Ref.{now}
 use lib.ListN.{length, take}
 use lib.Seq.{length-take-le, take-suc-set}
-use Rattle.journal.specs.Journal.{lineFeed}
+use Rattle.texts.specs.Texts.{lineFeed}
 use Rattle.journal.specs.Blocks.{closed}
 use borrow.Author.Needs.{needs}
 use Rattle.cardlog.proofs.close.Statement.{statement}

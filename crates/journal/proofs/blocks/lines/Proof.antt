@@ -12,12 +12,13 @@ use Rattle.card.specs.declared.judgements.Verdict.{Verdict}
 use Rattle.card.specs.Records.{sound, zoneAt, withZone}
 use Rattle.card.specs.Answers.{numberOf, valuesOf}
 use Rattle.card.specs.Inner.{answerBy, afterBy}
+use Rattle.texts.proofs.Parts.{turn-ended, turn-begun, last-ended, last-begun}
 use Rattle.journal.specs.Journal.{Yield, lineYields}
 use Rattle.journal.specs.declared.judging.Sought.{Sought}
 use Rattle.journal.specs.Inner.{soughtOf, lookUp, outputOf}
 use Rattle.journal.proofs.Judged.{unaltered, sound-kept, place-below, turn-yields}
 use Rattle.journal.proofs.Bounds.{eight-so-far}
-use Rattle.journal.proofs.Texts.{Ahead, ahead-all, ahead-turn, ahead-none, turn-ended, turn-begun, last-ended, last-begun, written-on, room-behind, fits-behind}
+use Rattle.journal.proofs.Texts.{Ahead, ahead-all, ahead-turn, ahead-none, written-on, room-behind, fits-behind}
 use borrow.Author.Needs.{needs}
 use Rattle.journal.proofs.blocks.lines.Statement.{statement}
 use Rattle.journal.proofs.blocks.lines.Tie as tie

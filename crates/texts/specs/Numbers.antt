@@ -1,4 +1,4 @@
--- The log's numbers: decimals, and bytes in capital hexadecimal digits.
+-- The numbers of a text, as document 01 has them in its log: decimals, and bytes in capital hexadecimal digits.
 use Prim.Native.Nat.{ℕ, _+_, _-_, _*_, _/_, _%_}
 use mathlib.Core.Bool.{Bool, cond, not, _&&_}
 use mathlib.Core.List.{List, [], _∷_}
@@ -9,7 +9,6 @@ use Rattle.wire.specs.declared.Figure.{Figure}
 use Rattle.wire.specs.declared.Figure.the-variants.{Value, Bad}
 use Rattle.wire.specs.Road.{Numbers, are, none, join}
 use Rattle.line.specs.Field.{digitsBehind}
-use Rattle.line.specs.Line.{digitsFor}
 
 -- ---- decimals
 
@@ -20,10 +19,6 @@ leadingZero l = eqb (getD l 0 0) 48 && ltb 1 (length l)
 -- "Decimals have no leading zeros and at most 5 digits"
 unfoldable pub decimalOf : List ℕ → Figure
 decimalOf l = cond (within 1 5 (length l) && not (leadingZero l)) (digitsBehind 0 l) Bad
-
--- the digits of an answer number, all of which are below 100
-abbrev pub numberDigits : ℕ → List ℕ
-numberDigits n = cond (ltb n 10) (digitsFor 1 n) (digitsFor 2 n)
 
 -- ---- "in capital hex"
 

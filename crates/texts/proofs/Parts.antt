@@ -1,16 +1,15 @@
--- The lines of a text in parts: what a text without a line feed comes to, and one up to its first line feed. Assumes nothing.
-use Prim.Native.Nat.{ℕ, zero, suc, _≤_, _<_}
+-- The lines of a text in parts: what a text without a line feed comes to, one up to its first line feed, and one from an index on. Assumes nothing.
+use Prim.Native.Nat.{ℕ, zero, suc, _+_, _-_, _≤_, _<_}
 use mathlib.Core.Path.{_≡_, refl, sym, ap, _∙_}
 use mathlib.Core.Bool.{Bool, true, false}
 use mathlib.Core.List.{List, [], _∷_, _++_, append-nil}
 use native.Mathlib.Omega.{arith}
-use lib.ListN.{length, take, drop}
+use lib.ListN.{length, take, drop, length-drop}
 use lib.Dec.{eqb}
-use lib.Seq.{append-snoc}
+use lib.Seq.{append-snoc, drop-drop}
 use borrow.Author.Tests.{eqb-true}
 use Rattle.bytes.specs.Bytes.{indexOf, indexAfter}
-use Rattle.journal.specs.Journal.{lineFeed}
-use Rattle.journal.specs.Blocks.{endedBehind, begunBehind, ended, begun}
+use Rattle.texts.specs.Texts.{lineFeed, endedBehind, begunBehind, ended, begun, unended}
 
 pub by-test : {R : Type 0} (t : Bool) → (t ≡ true → R) → (t ≡ false → R) → R
 by-test true f g = f refl
@@ -87,3 +86,36 @@ ended-line t h = let f = first-feed t h in ap (λ (s : List ℕ). ended s) (f .0
 
 pub begun-line : (t : List ℕ) → indexOf lineFeed t < length t → begun t ≡ begun (drop (suc (indexOf lineFeed t)) t)
 begun-line t h = let f = first-feed t h in ap (λ (s : List ℕ). begun s) (f .0) ∙ begun-first (take (indexOf lineFeed t) t) (drop (suc (indexOf lineFeed t)) t)
+
+-- ---- the line from `at` to the line feed at `end`
+
+module _ (block : List ℕ) (at end : ℕ) (h : at ≤ length block) (e : end ≡ at + indexOf lineFeed (drop at block)) where
+  some-feed : end < length block → indexOf lineFeed (drop at block) < length (drop at block)
+  some-feed k = rw length-drop (omega arith)
+
+  behind : drop (suc (indexOf lineFeed (drop at block))) (drop at block) ≡ drop (end + 1) block
+  behind =
+      let n : at + suc (indexOf lineFeed (drop at block)) ≡ end + 1 = omega arith in
+      drop-drop (suc (indexOf lineFeed (drop at block))) at block ∙ rw n
+
+  width : indexOf lineFeed (drop at block) ≡ end - at
+  width = omega arith
+
+  pub turn-ended : end < length block → ended (drop at block) ≡ take (end - at) (drop at block) ∷ ended (drop (end + 1) block)
+  turn-ended k = ended-line (drop at block) (some-feed k) ∙ rw (behind, width)
+
+  pub turn-begun : end < length block → begun (drop at block) ≡ begun (drop (end + 1) block)
+  turn-begun k = begun-line (drop at block) (some-feed k) ∙ rw behind
+
+  pub last-ended : length block ≤ end → ended (drop at block) ≡ []
+  last-ended k = plain-ended [] (no-feed (drop at block) (rw length-drop (omega arith)))
+
+  pub last-begun : length block ≤ end → begun (drop at block) ≡ drop at block
+  last-begun k = plain-begun [] (no-feed (drop at block) (rw length-drop (omega arith)))
+
+-- ---- the last line
+
+-- "A last line may lack its line end": it is the line that it would be with it
+pub last-lacks : (x : ℕ) (l : List ℕ) → Plain (x ∷ l) → unended (x ∷ l) ≡ ended ((x ∷ l) ++ (lineFeed ∷ []))
+unfolding endedBehind
+last-lacks x l p = sym (ended-first (x ∷ l) [] p)

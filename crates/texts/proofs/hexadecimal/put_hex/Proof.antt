@@ -5,10 +5,10 @@ use mathlib.Core.List.{_++_}
 use native.Mathlib.Omega.{arith}
 use denote.Ref.{now}
 use lib.ListN.{length, take, drop, length-set}
-use Rattle.journal.specs.Numbers.{inHex}
-use Rattle.journal.proofs.Hex.{hex-more, hex-all}
-use Rattle.journal.proofs.numbers.put_hex.Statement.{statement}
-use Rattle.journal.proofs.numbers.put_hex.Tie as tie
+use Rattle.texts.specs.Numbers.{inHex}
+use Rattle.texts.proofs.Hex.{hex-more, hex-all}
+use Rattle.texts.proofs.hexadecimal.put_hex.Statement.{statement}
+use Rattle.texts.proofs.hexadecimal.put_hex.Tie as tie
 
 abbrev Inv-loop : tie.InvT-loop
 Inv-loop src room₀ i₀ room i = (i ≤ length src) × (length room ≡ length room₀) × (room ≡ inHex (take i src) ++ drop (2 * i) room₀)

@@ -1,8 +1,8 @@
 -- The test picks the same digit as `hexDigit`.
 use borrow.Author.Tests.{lt-ltb, le-ltb}
 use borrow.Author.Needs.{needs}
-use Rattle.journal.proofs.numbers.digit.Statement.{statement}
-use Rattle.journal.proofs.numbers.digit.Tie as tie
+use Rattle.texts.proofs.hexadecimal.digit.Statement.{statement}
+use Rattle.texts.proofs.hexadecimal.digit.Tie as tie
 
 returns : tie.Need-returns
 returns c = rw (lt-ltb _ _ (c .if1 .taken))

@@ -11,9 +11,9 @@ use Rattle.bytes.specs.Bytes.{indexOf, slice}
 use Rattle.wire.specs.declared.Figure.{Figure}
 use Rattle.wire.specs.declared.Figure.the-variants.{Bad}
 use Rattle.line.specs.Field.{digitsBehind}
-use Rattle.journal.specs.Numbers.{leadingZero, decimalOf}
-use Rattle.journal.specs.Lines.{tab}
-use Rattle.journal.specs.Inner.{numeralOf, numeralAt}
+use Rattle.texts.specs.Numbers.{leadingZero, decimalOf}
+use Rattle.texts.specs.Texts.{tab}
+use Rattle.texts.specs.Inner.{numeralOf, numeralAt}
 
 pub decimal-short : (l : List ℕ) → length l < 1 → decimalOf l ≡ Bad
 unfolding decimalOf

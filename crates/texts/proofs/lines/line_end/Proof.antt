@@ -4,11 +4,11 @@ use mathlib.Core.Path.{_≡_, refl, sym, _∙_}
 use native.Mathlib.Omega.{arith}
 use lib.ListN.{length, drop}
 use Rattle.bytes.specs.Bytes.{indexOf}
-use Rattle.journal.specs.Journal.{lineFeed}
-use Rattle.journal.proofs.Scans.{feed-here, feed-later, feed-nowhere}
+use Rattle.texts.specs.Texts.{lineFeed}
+use Rattle.texts.proofs.Scans.{feed-here, feed-later, feed-nowhere}
 use borrow.Author.Needs.{needs}
-use Rattle.journal.proofs.blocks.line_end.Statement.{statement}
-use Rattle.journal.proofs.blocks.line_end.Tie as tie
+use Rattle.texts.proofs.lines.line_end.Statement.{statement}
+use Rattle.texts.proofs.lines.line_end.Tie as tie
 
 abbrev Inv-loop : tie.InvT-loop
 Inv-loop block from i₀ i = (i ≤ length block) × (from + indexOf lineFeed (drop from block) ≡ i + indexOf lineFeed (drop i block))

@@ -16,8 +16,8 @@ use Rattle.wire.specs.declared.Figure.{Figure}
 use Rattle.wire.specs.declared.Figure.the-variants.{Value, Bad}
 use Rattle.wire.specs.Road.{Numbers, are, none, join}
 use Rattle.wire.specs.Room.{Filled}
-use Rattle.journal.specs.Numbers.{digitRead, byteRead, bytesRead, hexDigit, inHex}
-use Rattle.journal.specs.Inner.{orSixteen, digitValue, valuesFrom, digitValues}
+use Rattle.texts.specs.Numbers.{digitRead, byteRead, bytesRead, hexDigit, inHex}
+use Rattle.texts.specs.Inner.{orSixteen, digitValue, valuesFrom, digitValues}
 
 -- ---- the table
 

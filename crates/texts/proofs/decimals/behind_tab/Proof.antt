@@ -4,10 +4,10 @@ use denote.Ref.{now}
 use lib.ListN.{List·getD-eq-default}
 use borrow.Author.Tests.{ne-eqb}
 use borrow.Author.Needs.{needs}
-use Rattle.journal.specs.Inner.{numeralAt}
-use Rattle.journal.proofs.Decimals.{numeral-found}
-use Rattle.journal.proofs.numbers.behind_tab.Statement.{statement}
-use Rattle.journal.proofs.numbers.behind_tab.Tie as tie
+use Rattle.texts.specs.Inner.{numeralAt}
+use Rattle.texts.proofs.DecimalLaws.{numeral-found}
+use Rattle.texts.proofs.decimals.behind_tab.Statement.{statement}
+use Rattle.texts.proofs.decimals.behind_tab.Tie as tie
 
 returns : tie.Need-returns
 unfolding numeralAt

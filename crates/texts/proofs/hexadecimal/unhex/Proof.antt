@@ -4,10 +4,10 @@ use mathlib.Core.Path.{_≡_, refl, sym}
 use native.Mathlib.Omega.{arith}
 use denote.Ref.{now}
 use lib.ListN.{length, getD, take, drop, length-set}
-use Rattle.journal.specs.Numbers.{bytesRead}
-use Rattle.journal.proofs.Hex.{prepend, prepend-nil, byte-is, byte-bad, byte-fits, read-odd, read-more, read-bad, read-all}
-use Rattle.journal.proofs.numbers.unhex.Statement.{statement}
-use Rattle.journal.proofs.numbers.unhex.Tie as tie
+use Rattle.texts.specs.Numbers.{bytesRead}
+use Rattle.texts.proofs.Hex.{prepend, prepend-nil, byte-is, byte-bad, byte-fits, read-odd, read-more, read-bad, read-all}
+use Rattle.texts.proofs.hexadecimal.unhex.Statement.{statement}
+use Rattle.texts.proofs.hexadecimal.unhex.Tie as tie
 
 abbrev Inv-loop : tie.InvT-loop
 Inv-loop digits values room₀ n i₀ room i = (i ≤ n) × (length room ≡ length room₀) × (bytesRead digits ≡ prepend (take i room) (bytesRead (drop (2 * i) digits)))

@@ -1,9 +1,9 @@
 -- The table is the definition's, computed for each of the 256 bytes.
 use mathlib.Core.Path.{refl}
-use Rattle.journal.specs.Inner.{digitValues}
+use Rattle.texts.specs.Inner.{digitValues}
 use borrow.Author.Needs.{needs}
-use Rattle.journal.proofs.numbers.digit_values.Statement.{statement}
-use Rattle.journal.proofs.numbers.digit_values.Tie as tie
+use Rattle.texts.proofs.hexadecimal.digit_values.Statement.{statement}
+use Rattle.texts.proofs.hexadecimal.digit_values.Tie as tie
 
 returns : tie.Need-returns
 unfolding digitValues

@@ -4,9 +4,9 @@ use denote.Ref.{now}
 use lib.ListN.{length}
 use borrow.Author.Tests.{eq-eqb}
 use borrow.Author.Needs.{needs}
-use Rattle.journal.proofs.Decimals.{decimal-short, decimal-long, decimal-zeros, decimal-digits}
-use Rattle.journal.proofs.numbers.decimal.Statement.{statement}
-use Rattle.journal.proofs.numbers.decimal.Tie as tie
+use Rattle.texts.proofs.DecimalLaws.{decimal-short, decimal-long, decimal-zeros, decimal-digits}
+use Rattle.texts.proofs.decimals.decimal.Statement.{statement}
+use Rattle.texts.proofs.decimals.decimal.Tie as tie
 
 returns : tie.Need-returns
 returns c = sym (decimal-short _ (c .if1 .taken))

@@ -1,0 +1,5 @@
+pub mod DecimalLaws
+pub mod Hex
+pub mod Fields
+pub mod Scans
+pub mod Parts
