@@ -28,6 +28,7 @@ use Rattle.journal.specs.Lines.{Asks, adds, removes, reports, says, fram
 use Rattle.texts.specs.Texts.{lineFeed, endedBehind, begunBehind, ended, begun, unended, linesOf}
 use Rattle.journal.specs.Journal.{Yield, yieldOf, lineYields, linesYield, callOf, callsIn}
 use Rattle.journal.specs.Blocks.{logOf, fed, closed, blocksYield, joined}
+use Rattle.journal.specs.Rules.{CutAnywhere, LogIsSession}
 use Rattle.journal.proofs.Fields.{line-long}
 use Rattle.texts.proofs.Parts.{by-test, ended-append, begun-append, Plain, none, plain-ended, plain-begun, plain-take, begun-plain, last-lacks}
 
@@ -118,14 +119,13 @@ by-blocks r held behind (block ∷ blocks) p e =
     let rest = by-blocks (linesYield r (endedBehind behind block) .after) kept (begunBehind behind block) blocks plain alike in
     rw (same, ended-append behind block (joined blocks), begun-append behind block (joined blocks), append-assoc, lines-output, rest)
 
--- however the input is cut into blocks, what is written is what the whole log yields. (Of a line that is too long not all is kept between two blocks, but it is unreadable either way.)
-pub cut-anywhere : (blocks : List (List ℕ)) → blocksYield emptyRecord [] blocks ≡ logOf (joined blocks)
+pub cut-anywhere : CutAnywhere
 unfolding logOf
 cut-anywhere blocks = by-blocks emptyRecord [] [] blocks none refl
 
 -- ---- a log is a session: its readable lines, as the calls that they make
 
-pub is-session : (r : Record) (lines : List (List ℕ)) → linesYield r lines .after ≡ run r (callsIn lines)
+pub is-session : LogIsSession
 unfolding linesYield lineYields
 is-session r [] = refl
 is-session r (line ∷ lines) = by-asks (asksOf line) (λ s. is-session s lines)
