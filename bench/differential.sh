@@ -3,12 +3,15 @@
 #
 #     sh bench/differential.sh PROGRAM FOLDER [LINES [SEED...]]
 #
-# PROGRAM is the proved program, FOLDER takes what is built and written. Each seed gives a log of LINES lines. The two
-# outputs have to be the same bytes, one line for each line of the log, and every answer that a letter can get has to
-# occur. The status is 0 if so, else 1, and the first difference is shown.
+# PROGRAM is the proved program, FOLDER takes what is built and written. Each seed gives a log of LINES lines. Where no
+# seed is given they are 1 to 8 and a fresh one, which is told, so that its log can be made again. The two outputs have
+# to be the same bytes, one line for each line of the log, and every answer that a letter can get has to occur. The
+# status is 0 if so, else 1, and the first difference is shown.
 set -u
+unset CDPATH
 
 here=$(cd "$(dirname "$0")" && pwd -P) || exit 1
+. "$here/../kit.sh"
 . "$here/tools.sh"
 
 [ $# -ge 2 ] || bench_fail "usage: differential.sh PROGRAM FOLDER [LINES [SEED...]]"
@@ -16,7 +19,11 @@ program=$1 folder=$2
 shift 2
 lines=${1:-50000}
 [ $# -eq 0 ] || shift
-[ $# -gt 0 ] || set -- 1 2 3 4 5 6 7 8
+[ $# -gt 0 ] || {
+    fresh=$(od -A n -t u4 -N 4 /dev/urandom 2>/dev/null | tr -d ' ')
+    set -- 1 2 3 4 5 6 7 8 "${fresh:=$(date +%s)}"
+    printf 'bench: the fresh seed is %s\n' "$fresh"
+}
 [ -f "$program" ] || bench_fail "there is no program $program"
 case $program in */*) ;; *) program=./$program ;; esac
 
@@ -29,8 +36,8 @@ log=$folder/log.in proved=$folder/log.proved c=$folder/log.c
 
 # Runs both programs on the log.
 run_both() { # WHAT THE LOG IS
-    bench_run "$program" <"$log" >"$proved" || bench_fail "$1: the proved program ended with status $?"
-    bench_run "$folder/card-test" <"$log" >"$c" || bench_fail "$1: the C program ended with status $?"
+    kit_run "$program" <"$log" >"$proved" || bench_fail "$1: the proved program ended with status $?"
+    kit_run "$folder/card-test" <"$log" >"$c" || bench_fail "$1: the C program ended with status $?"
 }
 
 # Shows the first line in which the outputs differ. Where one is the beginning of the other, it is the line after.
@@ -79,11 +86,11 @@ fixed 'the whole case' \
 compared=0
 : >"$folder/answers"
 for seed in "$@"; do
-    bench_run "$folder/logs" "$seed" "$lines" >"$log" || bench_fail "the log of seed $seed cannot be made"
+    kit_run "$folder/logs" "$seed" "$lines" >"$log" || bench_fail "the log of seed $seed cannot be made"
     compare "seed $seed"
     [ "$given" -eq "$lines" ] || bench_fail "seed $seed: the log has $given lines in place of $lines"
     compared=$((compared + given))
-    dd bs=$((600 + seed % 8)) <"$log" 2>/dev/null | bench_run "$program" | cmp -s - "$c" ||
+    dd bs=$((600 + seed % 8)) <"$log" 2>/dev/null | kit_run "$program" | cmp -s - "$c" ||
         bench_fail "seed $seed: the proved program gives another output where the log comes through a pipe, in pieces"
     cut -f 1,2 "$proved" | sort | uniq -c >>"$folder/answers"
 done

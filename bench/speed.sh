@@ -8,8 +8,10 @@
 # programs take turns. A run reads the log from a file and writes to /dev/null, and its time is its processor time,
 # which other work on the machine disturbs least; elapsed times are printed beside it. The outputs are compared first.
 set -u
+unset CDPATH
 
 here=$(cd "$(dirname "$0")" && pwd -P) || exit 1
+. "$here/../kit.sh"
 . "$here/tools.sh"
 
 [ $# -ge 2 ] || bench_fail "usage: speed.sh PROGRAM FOLDER [ROUNDS]"
@@ -29,20 +31,29 @@ bench_log() { # LINES
     made=$folder/bench-$1.$(cksum <"$here/logs.c" | cut -d ' ' -f 1)
     if [ ! -f "$made" ]; then
         rm -f "$folder/bench-$1".*
-        bench_run "$folder/logs" 2 "$1" bench >"$folder/making" && mv "$folder/making" "$made" ||
+        kit_run "$folder/logs" 2 "$1" bench >"$folder/making" && mv "$folder/making" "$made" ||
             bench_fail "the log of $1 lines cannot be made"
     fi
 }
+tell() { # WORDS
+    printf 'bench: %s\n' "$1" >&2
+}
+
+kind="$(uname -m), $(nproc 2>/dev/null || echo '?') cores"
+if [ -n "$kit_emulator" ]; then kind="$kind; all programs run under the kit's emulator, whose time and memory are counted"; fi
+tell "on $kind"
+tell 'two logs are made, of 1,000,000 and 4,000,000 lines, if they are not there yet'
 bench_log 1000000
 small=$made
 bench_log 4000000
 large=$made
 
 # The outputs first.
+tell 'the outputs of the three programs are compared'
 for log in "$small" "$large"; do
-    bench_run "$folder/card-test" <"$log" >"$folder/speed.c" || bench_fail "the C program with the test failed"
-    bench_run "$folder/card-plain" <"$log" >"$folder/speed.plain" || bench_fail "the C program without the test failed"
-    bench_run "$program" <"$log" >"$folder/speed.proved" || bench_fail "the proved program failed"
+    kit_run "$folder/card-test" <"$log" >"$folder/speed.c" || bench_fail "the C program with the test failed"
+    kit_run "$folder/card-plain" <"$log" >"$folder/speed.plain" || bench_fail "the C program without the test failed"
+    kit_run "$program" <"$log" >"$folder/speed.proved" || bench_fail "the proved program failed"
     cmp "$folder/speed.c" "$folder/speed.plain" && cmp "$folder/speed.c" "$folder/speed.proved" ||
         bench_fail "the outputs differ"
 done
@@ -53,8 +64,10 @@ measure() { # NAME PROGRAM LOG
 }
 
 rm -f "$folder"/times-*
+tell "$rounds rounds in turn; each dot is one"
 round=0
 while [ "$round" -lt "$rounds" ]; do
+    printf '.' >&2
     measure proved "$program" "$small"
     measure test "$folder/card-test" "$small"
     measure plain "$folder/card-plain" "$small"
@@ -79,15 +92,15 @@ ratio() { # NAME NAME
     awk -v a="$(median "$1" 1)" -v b="$(median "$2" 1)" 'BEGIN { printf "%.2f", a / b }'
 }
 
-[ -z "$bench_emulator" ] ||
-    printf 'not an x86-64: all programs ran under the emulator, whose time and memory are counted\n'
-printf 'medians of %s rounds in turn:\n' "$rounds"
+printf '\n' >&2
+printf 'machine: %s\n' "$kind"
+printf 'a log of half lines and half frames, 2 in 100 of them refused, from a file to /dev/null; medians of %s rounds in turn:\n' "$rounds"
 row proved 1000000 'proved program'
-row test 1000000 'C, testing soundness'
 row plain 1000000 'C, no test'
+row test 1000000 'C, testing soundness'
 row large 4000000 'proved program'
-printf 'time of the proved program, C = 1: %s (C testing soundness), %s (C without the test)\n' \
-    "$(ratio proved test)" "$(ratio proved plain)"
-printf 'time of the proved program, 1000000 lines = 1: %s (4000000 lines)\n' "$(ratio large proved)"
+printf 'processor time of the proved program, C = 1: %s (C without the test of soundness), %s (C testing it)\n' \
+    "$(ratio proved plain)" "$(ratio proved test)"
+printf 'processor time of the proved program, 1000000 lines = 1: %s (4000000 lines)\n' "$(ratio large proved)"
 printf 'proved program, peak memory: %s KiB for 1000000 lines, %s KiB for 4000000\n' \
     "$(median proved 3)" "$(median large 3)"
