@@ -44,9 +44,10 @@ expect_all() { # STATUS OUTPUT SAID
     expect 'status' "$1" "$status"
 }
 
-# The sample day was answered, and nothing else happened.
+# The sample day was answered, byte by byte, and nothing else happened.
 expect_day() {
     expect_all 0 "$(cat "$answers")" ''
+    cmp -s out "$answers" || wrong 'the answers have another end'
 }
 
 # Runs a command and keeps its output, what it says and its status.
@@ -219,9 +220,10 @@ test_an_answer_comes_as_soon_as_its_line() {
     make_root
     mkfifo log
     exec 5<>log
-    "$card" log log >out 2>err &
+    "$card" log log >out 2>err 5<&- &
     printf 'X\t0\n' >&5
     await [ -s out ] || wrong "no answer while the log is open: '$(cat err)'"
+    expect 'the answer' "X${tab}3${tab}-" "$(cat out)"
     kill "$!"
 }
 
@@ -610,6 +612,8 @@ bench/differential.sh ran
 test_the_program_needs_little_stack() {
     [ "$(uname -m)" = x86_64 ] || skip 'since the emulator has a stack of its own'
     (
+        # The environment stands on the stack too, and is not the program's.
+        for variable in $(env | sed -n 's/^\([A-Za-z_][A-Za-z0-9_]*\)=.*/\1/p'); do unset "$variable"; done
         ulimit -s 195 || exit 1
         kit_run "$program" <"$day"
     ) >out 2>err
