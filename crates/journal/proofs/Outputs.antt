@@ -11,8 +11,6 @@ use lib.Dec.{ltb}
 use borrow.Author.Tests.{lt-ltb, le-ltb}
 use borrow.Rule.Slice.PartMut.{putMid}
 use Rattle.zone.specs.declared.figures.Figures.{Figures}
-use Rattle.zone.specs.declared.figures.Figures.the-variants.{AhueDeadline, AhueWindow, HzbgLimit, RrueReference, SolwSetpoint}
-use Rattle.zone.specs.Lists.{isZero}
 use Rattle.card.specs.declared.answers.Refusal.{Refusal}
 use Rattle.card.specs.declared.answers.Refusal.the-variants as refusal
 use Rattle.card.specs.declared.answers.Answer.{Answer}
@@ -20,15 +18,11 @@ use Rattle.card.specs.declared.answers.Answer.the-variants.{Done, Told, Refused
 use Rattle.card.specs.Answers.{refusalNumber, numberOf}
 use Rattle.wire.specs.Room.{filled, Filled}
 use Rattle.wire.proofs.Room.{placed-next, lent-part}
-use Rattle.line.specs.Line.{A, lineWith, digitsFor}
+use Rattle.line.specs.Line.{digitsFor}
 use Rattle.frame.specs.declared.reading.Framed.{Framed}
 use Rattle.frame.specs.declared.reading.Framed.the-variants.{NoFrame, BadSum, Request}
-use Rattle.frame.specs.Frame.{bodyWith, framed}
-use Rattle.roads.specs.declared.answering.Acknowledgement.{Acknowledgement}
-use Rattle.roads.specs.declared.answering.Acknowledgement.the-variants.{Okay, CommandError, SyntaxError, CommandLock, TransferError}
-use Rattle.roads.specs.declared.answering.Reply.{Reply}
-use Rattle.roads.specs.declared.answering.Reply.the-variants.{Nothing, Acknowledges}
-use Rattle.roads.specs.Acknowledgements.{textOf, functionOf, replyTo, inText, textDone, textReply, inFrame, frameDone, frameReply}
+use Rattle.roads.specs.Acknowledgements.{frameReply}
+use Rattle.roads.proofs.Lengths.{either, text-fits, frame-fits}
 use Rattle.journal.specs.declared.asking.Entry.{Entry}
 use Rattle.journal.specs.declared.asking.Entry.the-variants.{Add, Remove, Report, Text, Frame, Unreadable}
 use Rattle.texts.specs.Numbers.{inHex}
@@ -59,58 +53,6 @@ pub number-below : (answer : Answer) → numberOf answer < 100
 number-below Done = omega arith
 number-below (Told figures) = omega arith
 number-below (Refused why) = refusal-below why
-
--- whichever list a test picks
-either : (t : Bool) (xs ys : List ℕ) (n : ℕ) → length xs ≤ n → length ys ≤ n → length (cond t xs ys) ≤ n
-either true xs ys n h k = h
-either false xs ys n h k = k
-
--- a reply in text
-text-of : (a : Acknowledgement) → length (textOf a) ≤ 32
-text-of Okay = omega arith
-text-of CommandError = omega arith
-text-of SyntaxError = omega arith
-text-of CommandLock = omega arith
-text-of TransferError = omega arith
-
-in-text : (reply : Reply) → length (inText reply) ≤ 32
-in-text Nothing = omega arith
-in-text (Acknowledges a) = text-of a
-
-line-with : (figures : Figures) → length (lineWith A figures) ≤ 32
-line-with (AhueDeadline f) = omega arith
-line-with (AhueWindow f) = omega arith
-line-with (HzbgLimit f) = omega arith
-line-with (RrueReference f) = omega arith
-line-with (SolwSetpoint f) = omega arith
-
-text-done : (values : List Figures) → length (textDone values) ≤ 32
-text-done [] = omega arith
-text-done (figures ∷ more) = line-with figures
-
-pub text-fits : (number : ℕ) (values : List Figures) → length (textReply number values) ≤ 32
-unfolding textReply
-text-fits number values = either (isZero number) (textDone values) (inText (replyTo number)) 32 (text-done values) (in-text (replyTo number))
-
--- a reply in a frame, and each of its bytes in two digits
-in-frame : (address : ℕ) (reply : Reply) → length (inFrame address reply) ≤ 16
-in-frame address Nothing = omega arith
-in-frame address (Acknowledges a) = omega arith
-
-frame-with : (address : ℕ) (figures : Figures) → length (framed (bodyWith address (functionOf Okay) figures)) ≤ 16
-frame-with address (AhueDeadline f) = omega arith
-frame-with address (AhueWindow f) = omega arith
-frame-with address (HzbgLimit f) = omega arith
-frame-with address (RrueReference f) = omega arith
-frame-with address (SolwSetpoint f) = omega arith
-
-frame-done : (address : ℕ) (values : List Figures) → length (frameDone address values) ≤ 16
-frame-done address [] = omega arith
-frame-done address (figures ∷ more) = frame-with address figures
-
-pub frame-fits : (address number : ℕ) (values : List Figures) → length (frameReply address number values) ≤ 16
-unfolding frameReply
-frame-fits address number values = either (isZero number) (frameDone address values) (inFrame address (replyTo number)) 16 (frame-done address values) (in-frame address (replyTo number))
 
 pub framed-fits : (framed : Framed) (number : ℕ) (values : List Figures) → length (frameReplied framed number values) ≤ 32
 framed-fits NoFrame number values = omega arith

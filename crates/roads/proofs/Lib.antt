@@ -6,3 +6,4 @@ pub mod Replies
 pub mod Unique
 pub mod ReadBack
 pub mod Applied
+pub mod Lengths

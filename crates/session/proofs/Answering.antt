@@ -1,13 +1,14 @@
 -- Demand 1, of each call: one of the numbered answers, the first that applies in the printed order; a refusal leaves the record and writes the acknowledgement alone. Assumes nothing.
-use Prim.Native.Nat.{ℕ}
+use Prim.Native.Nat.{ℕ, _≤_}
 use mathlib.Core.Path.{_≡_, refl, ap, _∙_}
 use mathlib.Core.Bool.{Bool, true, false, cond, _&&_, _||_}
 use mathlib.Core.List.{List, [], _∷_}
 use native.Mathlib.Omega.{arith}
 use lib.Dec.{eqb}
 use lib.ListN.{length, take}
-use borrow.Author.Tests.{eq-eqb, ne-eqb}
+use borrow.Author.Tests.{eq-eqb, ne-eqb, ltb-false}
 use Rattle.zone.specs.declared.figures.Figures.{Figures}
+use Rattle.zone.specs.Lists.{isZero}
 use Rattle.zone.specs.Zones.{addressInRange}
 use Rattle.zone.proofs.Tests.{or-true}
 use Rattle.card.specs.declared.records.Record.{Record}
@@ -18,10 +19,12 @@ use Rattle.card.specs.Calls.{addOf, removeOf, reportOf, applyOf}
 use Rattle.card.specs.Rules.{InOrder, Keeps, ExactlyWhen}
 use Rattle.card.proofs.Kept.{add-order, remove-order, report-order, apply-order, write-order, add-exactly, remove-exactly, report-exactly, apply-exactly, add-keeps, remove-keeps, report-keeps, apply-keeps}
 use Rattle.wire.specs.Road.{carriesCommand}
-use Rattle.line.specs.Line.{textRoad, lineRead}
-use Rattle.frame.specs.Frame.{frameRoad, addressIn, bodyIn, bodyRead}
+use Rattle.wire.specs.Room.{filled}
+use Rattle.line.specs.Line.{textRoad, lineOf, lineRead}
+use Rattle.frame.specs.Frame.{frameRoad, frameOf, addressIn, bodyIn, bodyRead}
 use Rattle.roads.specs.Acknowledgements.{textRefusal, textReply, frameRefusal, frameReply}
-use Rattle.roads.specs.Calls.{Answered, said, parsedAt, textRows, inTextReply, answerText, zoneFound, holder, frameRows, inFrameReply, answerFrame, composeRows, composedLine, composedFrame}
+use Rattle.roads.specs.Calls.{Answered, said, tooSmall, parsedAt, textRows, textResult, inTextReply, answerText, zoneFound, holder, frameRows, frameResult, inFrameReply, answerFrame, composeRows, composed, composedLine, composedFrame}
+use Rattle.roads.proofs.Lengths.{either, text-fits, frame-fits, line-fits, whole-frame-fits, room-kept}
 use Rattle.roads.proofs.Exactly.{text-order, frame-order, compose-order, write-line-order, write-frame-order, text-exactly, frame-exactly, compose-line-exactly, compose-frame-exactly}
 use Rattle.session.specs.Sessions.{text, frame, composeLine, composeFrame, Quiet, add, remove, report, apply, Call, inRoom, quiet, resultOf, answerTo, Done}
 use Rattle.session.specs.Demands.{order, refusals, among, lent, fixed, EveryCallAnswers, WritesHaveTheWholeOrder}
@@ -135,12 +138,56 @@ refused r (quiet (remove n)) u = kept r (removeOf r n) (remove-keeps r n) u
 refused r (quiet (report n state actual)) u = kept r (reportOf r n state actual) (report-keeps r n state actual) u
 refused r (quiet (apply n c)) u = kept r (applyOf r n c) (apply-keeps r n c) u
 
+-- ---- the room keeps its length
+
+-- a room below 32 bytes gets no reply, and one of 32 holds every reply
+text-room : (r : Record) (n : ℕ) (line room : List ℕ) → length (answerText r n line room .said .room) ≡ length room
+unfolding answerText textReply
+text-room r n line room = by-size (tooSmall room) refl
+  where
+    o : Result Record
+    o = textResult r n line room
+
+    by-size : (t : Bool) → tooSmall room ≡ t → length (filled (textReply (o .number) (o .values)) room) ≡ length room
+    by-size true e = rw e
+    by-size false e = room-kept (textReply (o .number) (o .values)) room (omega (arith, ltb-false (length room) 32 e, text-fits (o .number) (o .values)))
+
+frame-room : (r : Record) (bytes room : List ℕ) → length (answerFrame r bytes room .said .room) ≡ length room
+unfolding answerFrame frameReply
+frame-room r bytes room = by-size (tooSmall room) refl
+  where
+    o : Result Record
+    o = frameResult r bytes room
+
+    by-size : (t : Bool) → tooSmall room ≡ t → length (filled (frameReply (addressIn bytes) (o .number) (o .values)) room) ≡ length room
+    by-size true e = rw e
+    by-size false e = room-kept (frameReply (addressIn bytes) (o .number) (o .values)) room (omega (arith, ltb-false (length room) 32 e, frame-fits (addressIn bytes) (o .number) (o .values)))
+
+composed-room : (fits : Bool) (bytes room : List ℕ) → length bytes ≤ 32 → length (composed (composeRows fits room) bytes room .room) ≡ length room
+composed-room fits bytes room h = by-size (tooSmall room) refl
+  where
+    put : List ℕ
+    put = cond (isZero (first (composeRows fits room))) bytes []
+
+    by-size : (t : Bool) → tooSmall room ≡ t → length (filled put room) ≡ length room
+    by-size true e = rw e
+    by-size false e = room-kept put room (omega (arith, ltb-false (length room) 32 e, either (isZero (first (composeRows fits room))) bytes [] 32 h (omega arith)))
+
+same-room : (r : Record) (call : Call) → length (answerTo r call .said .room) ≡ length (lent call)
+unfolding composedLine composedFrame
+same-room r (inRoom (text n line) room) = text-room r n line room
+same-room r (inRoom (frame bytes) room) = frame-room r bytes room
+same-room r (inRoom (composeLine c) room) = composed-room (carriesCommand textRoad c) (lineOf c) room (line-fits c)
+same-room r (inRoom (composeFrame a c) room) = composed-room (addressInRange a && carriesCommand frameRoad c) (frameOf a c) room (whole-frame-fits a c)
+same-room r (quiet call) = refl
+
 pub answers : EveryCallAnswers
 answers r call = record {
   numbered = rw (first-given r call) (first-listed (refusals r call) (order call) (in-order r call));
   exactly = exactly r call;
   in-order = in-order r call;
   refused = refused r call;
+  same-room = same-room r call;
 }
 
 -- in short: a call that is not done leaves the record

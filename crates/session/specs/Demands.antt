@@ -97,6 +97,8 @@ pub record EndsWell (r : Record) (call : Call) : Type 0 where
   pub in-order : InOrder (refusals r call) (order call)
   -- "A refused call leaves the record as it was and writes nothing but the acknowledgement fixed there." It tells no figures, and the room keeps its contents behind the acknowledgement
   pub refused : (Done r call → ⊥) → answerTo r call ≡ record { said = said (answerTo r call .said .number) [] (fixed call (answerTo r call .said .number)) (lent call); after = r }
+  -- whatever is answered fits the room, which keeps its length
+  pub same-room : length (answerTo r call .said .room) ≡ length (lent call)
 
 -- `answers`, in proofs/Answering.antt
 abbrev pub EveryCallAnswers : Type 0

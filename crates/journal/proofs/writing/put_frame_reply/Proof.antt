@@ -1,5 +1,6 @@
 -- Where the frame is empty the room takes the dash; else its digits, the frame being what stands at the front of its own room.
-use Rattle.journal.proofs.Outputs.{frame-fits, put-within, taken-back, hex-dash-put, hex-put}
+use Rattle.roads.proofs.Lengths.{frame-fits}
+use Rattle.journal.proofs.Outputs.{put-within, taken-back, hex-dash-put, hex-put}
 use borrow.Author.Needs.{needs}
 use Rattle.journal.proofs.writing.put_frame_reply.Statement.{statement}
 use Rattle.journal.proofs.writing.put_frame_reply.Tie as tie
