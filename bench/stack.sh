@@ -19,7 +19,7 @@ cp -R "$here/../crates" "$here/../crates.txt" "$copy/" || exit 1
 # One line for each checker that is at work on the copy: its crate, and the resident KiB of its stack.
 look() {
     for maps in /proc/[0-9]*/smaps; do
-        words=$(tr '\0' ' ' <"${maps%smaps}cmdline" 2>/dev/null) || continue
+        words=$(tr '\0' ' ' <"${maps%smaps}cmdline") || continue
         case $words in *"--crate-name "*"$copy/crates/"*) ;; *) continue ;; esac
         crate=${words#*--crate-name }
         awk -v crate="${crate%% *}" '
@@ -35,7 +35,7 @@ RT_JOBS=1 rt check >log 2>&1 &
 checking=$!
 : >seen
 while kill -0 "$checking" 2>/dev/null; do
-    look >>seen
+    look >>seen 2>/dev/null
     sleep 0.2 2>/dev/null || sleep 1
 done
 wait "$checking"
