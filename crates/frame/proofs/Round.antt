@@ -2,7 +2,7 @@
 use Prim.Native.Nat.{ℕ, suc, _+_, _^_, _≤_, _<_}
 use mathlib.Core.Path.{_≡_, refl, sym, ap, _∙_}
 use mathlib.Core.Bool.{Bool, true, false, _&&_}
-use mathlib.Core.List.{List, [], _∷_, _++_, map}
+use mathlib.Core.List.{List, [], _∷_, _++_}
 use native.Mathlib.Omega.{arith}
 use native.Mathlib.Nat.{min-le-left}
 use lib.ListN.{length, take, drop, getD, length-append, length-take, take-append-drop, drop-of-length-le, List·getD-append, List·getD-eq-default}
@@ -25,7 +25,7 @@ use Rattle.wire.proofs.Layouts.{Lawful, Stands, write-reads, command-only}
 use Rattle.frame.specs.declared.reading.Framed.the-variants.{Request}
 use Rattle.frame.specs.Sum.{checksumOf}
 use Rattle.frame.specs.Frame.{bytesOf, numberAt, frameRoad, bodyOf, framed, frameOf, shaped, bodyIn, addressIn, checksumRight, firstIndexed, groupIndexed, indexedRead, bodyRead, frameRead}
-use Rattle.frame.specs.Rules.{FrameLengths, FrameReads, Bytes, ItsFrame, OnlyItsFrame}
+use Rattle.frame.specs.Rules.{FrameLengths, FrameReads, Bytes, OnlyItsFrame}
 use Rattle.frame.proofs.Requests.{index-again}
 use Rattle.frame.proofs.Shape.{whole}
 use Rattle.frame.proofs.ByteRule.{bytes-length, number-reads, number-only}

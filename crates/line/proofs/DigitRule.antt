@@ -2,7 +2,6 @@
 use mathlib.Core.Path.{_≡_, refl, sym, ap, _∙_, subst}
 use mathlib.Core.List.{List, [], _∷_, _++_}
 use mathlib.Core.Bool.{Bool, true, false, cond}
-use mathlib.Core.Logic.{_↔_}
 use Prim.Native.Nat.{ℕ, zero, suc, _+_, _-_, _*_, _/_, _%_, _^_, _≤_, _<_}
 use native.Mathlib.Omega.{arith}
 use native.Mathlib.Nat.{add-mul, mul-assoc, mul-one, mod-lt, mod-one, mod-eq-of-lt, pow-succ', pow-suc, pow-zero, add-zero, add-sub-cancel-left, pow-le-pow-right, div-div-eq-div-mul, div-one, one-mul, div-lt-iff-lt-mul}

@@ -5,8 +5,7 @@ use mathlib.Core.List.{List}
 use native.Mathlib.Omega.{arith}
 use Rattle.wire.specs.declared.Figure.{Figure}
 use Rattle.wire.specs.declared.Figure.the-variants.{Value, Bad}
-use Rattle.wire.specs.Road.{Numbers, are, none, join}
-use Rattle.line.specs.declared.reading.Limits.{Limits}
+use Rattle.wire.specs.Road.{Numbers, none, join}
 use Rattle.line.specs.declared.reading.Limits.the-variants as limits
 use Rattle.line.specs.Field.{figureOf}
 use Rattle.line.specs.Inner.{watchedBy, watchedOf}

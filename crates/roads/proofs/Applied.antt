@@ -19,12 +19,12 @@ use Rattle.card.proofs.Found.{find-own}
 use Rattle.card.proofs.Sets.{read-tells}
 use Rattle.wire.specs.declared.Parsed.the-variants.{Known}
 use Rattle.wire.specs.Road.{carriesCommand}
-use Rattle.line.specs.Line.{A, textRoad, lineWith, lineOf}
+use Rattle.line.specs.Line.{A, lineWith, lineOf}
 use Rattle.line.proofs.Round.{line-reads}
-use Rattle.frame.specs.Frame.{frameRoad, bodyWith, framed, frameOf}
+use Rattle.frame.specs.Frame.{bodyWith, framed, frameOf}
 use Rattle.frame.proofs.Round.{frame-reads}
 use Rattle.roads.specs.Acknowledgements.{textReply, frameReply}
-use Rattle.roads.specs.Calls.{replyIn, textResult, inTextReply, answerText, frameResult, inFrameReply, answerFrame}
+use Rattle.roads.specs.Calls.{replyIn, inTextReply, answerText, inFrameReply, answerFrame}
 use Rattle.roads.specs.Inner.{askedBy}
 use Rattle.roads.specs.Rules.{LineApplies, FrameApplies}
 use Rattle.roads.proofs.CallLaws.{asked-text, right-sum, held-right}

@@ -5,7 +5,7 @@ use mathlib.Core.Bool.{Bool, true, false, cond, _&&_, _||_}
 use mathlib.Core.List.{List, [], _∷_}
 use native.Mathlib.Omega.{arith}
 use lib.Dec.{eqb}
-use lib.ListN.{length, take}
+use lib.ListN.{length}
 use borrow.Author.Tests.{eq-eqb, ne-eqb, ltb-false}
 use Rattle.zone.specs.declared.figures.Figures.{Figures}
 use Rattle.zone.specs.Lists.{isZero}
@@ -26,7 +26,7 @@ use Rattle.roads.specs.Acknowledgements.{textRefusal, textReply, frameRefusal, 
 use Rattle.roads.specs.Calls.{Answered, said, tooSmall, parsedAt, textRows, textResult, inTextReply, answerText, zoneFound, holder, frameRows, frameResult, inFrameReply, answerFrame, composeRows, composed, composedLine, composedFrame}
 use Rattle.roads.proofs.Lengths.{either, text-fits, frame-fits, line-fits, whole-frame-fits, room-kept}
 use Rattle.roads.proofs.Exactly.{text-order, frame-order, compose-order, write-line-order, write-frame-order, text-exactly, frame-exactly, compose-line-exactly, compose-frame-exactly}
-use Rattle.session.specs.Sessions.{text, frame, composeLine, composeFrame, Quiet, add, remove, report, apply, Call, inRoom, quiet, resultOf, answerTo, Done}
+use Rattle.session.specs.Sessions.{text, frame, composeLine, composeFrame, add, remove, report, apply, Call, inRoom, quiet, answerTo, Done}
 use Rattle.session.specs.Demands.{order, refusals, among, lent, fixed, EveryCallAnswers, WritesHaveTheWholeOrder}
 
 -- ---- the first in the printed order

@@ -1,7 +1,7 @@
 -- Demand 1, of sessions: a removed zone stays empty until it is added again; an address that nobody holds meets silence, and the address of a removed zone goes on meeting it. Assumes nothing.
 use Prim.Native.Nat.{ℕ, _≤_}
 use mathlib.Core.Path.{_≡_, refl, sym, ap, _∙_, subst}
-use mathlib.Core.Bool.{Bool, true, false, not, _&&_, _||_}
+use mathlib.Core.Bool.{Bool, true, false, not, _&&_}
 use mathlib.Core.List.{List, [], _∷_}
 use lib.ListN.{length}
 use lib.Dec.{leb, eqb}
@@ -13,7 +13,6 @@ use Rattle.zone.proofs.Tests.{never, or-true}
 use Rattle.card.specs.declared.records.Record.{Record}
 use Rattle.card.specs.declared.records.Found.{Found}
 use Rattle.card.specs.declared.records.Found.the-variants.{At, Nowhere}
-use Rattle.card.specs.Answers.{Result}
 use Rattle.card.specs.Refusals.{Row, _gives_}
 use Rattle.card.specs.Records.{zoneAt, sound, findOf, noZone}
 use Rattle.card.specs.Calls.{removeOf, reportOf, applyOf}
@@ -21,13 +20,11 @@ use Rattle.card.proofs.Kept.{remove-keeps}
 use Rattle.card.proofs.Sets.{remove-at-zone, remove-sets, remove-frees}
 use Rattle.card.proofs.Scans.{found-somewhere}
 use Rattle.card.proofs.Found.{found-nowhere}
-use Rattle.wire.specs.Room.{filled}
-use Rattle.line.specs.Line.{lineRead}
 use Rattle.frame.specs.Frame.{addressIn, bodyIn, shaped, checksumRight, bodyRead}
 use Rattle.roads.specs.Acknowledgements.{textReply, frameReply}
-use Rattle.roads.specs.Calls.{Said, Answered, tooSmall, parsedRows, inTextReply, answerText, holder, resultAt, inFrameReply, answerFrame}
+use Rattle.roads.specs.Calls.{Answered, tooSmall, parsedRows, answerText, holder, resultAt, inFrameReply, answerFrame}
 use Rattle.session.specs.Sessions.{Quiet, remove, Call, quiet, answerTo, after, Done, run, Throughout}
-use Rattle.session.specs.Changes.{Becomes, stays, written, was-reported, was-removed, was-added, Adds, added, NotAdded, NotGiven}
+use Rattle.session.specs.Changes.{Becomes, stays, written, was-reported, was-removed, was-added, Adds, NotAdded, NotGiven}
 use Rattle.session.specs.Demands.{StaysEmpty, StaysRemoved, MeetsSilence, refusedSilently, PointsAt, applies, reports, removes, RemovedStaysGone}
 use Rattle.session.proofs.Changes.{becomes}
 use Rattle.session.proofs.Demand3.{stays-sound}
