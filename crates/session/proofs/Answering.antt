@@ -6,7 +6,7 @@ use mathlib.Core.List.{List, [], _∷_}
 use native.Mathlib.Omega.{arith}
 use lib.Dec.{eqb}
 use lib.ListN.{length}
-use borrow.Author.Tests.{eq-eqb, ne-eqb, ltb-false}
+use borrow.Author.Tests.{eq-eqb, ne-eqb, eqb-true, eqb-false, ltb-false}
 use Rattle.zone.specs.declared.figures.Figures.{Figures}
 use Rattle.zone.specs.Lists.{isZero}
 use Rattle.zone.specs.Zones.{addressInRange}
@@ -199,5 +199,5 @@ pub by-done : (r : Record) (call : Call) {P : Type 0} → (Done r call → P) �
 by-done r call {P} f g = by-number (eqb (answerTo r call .said .number) 0) refl
   where
     by-number : (t : Bool) → eqb (answerTo r call .said .number) 0 ≡ t → P
-    by-number true e = f (borrow.Author.Tests.eqb-true _ 0 e)
-    by-number false e = g (borrow.Author.Tests.eqb-false _ 0 e)
+    by-number true e = f (eqb-true _ 0 e)
+    by-number false e = g (eqb-false _ 0 e)

@@ -1,5 +1,6 @@
 -- A session: calls of every kind, each starting from the record that the one before handed back.
 use Prim.Native.Nat.{ℕ}
+use mathlib.Core.Path.{_≡_}
 use mathlib.Core.List.{List, [], _∷_}
 use Rattle.zone.specs.declared.figures.Command.{Command}
 use Rattle.card.specs.declared.records.Record.{Record}
@@ -48,7 +49,7 @@ after r call = answerTo r call .after
 
 -- the call is answered as done
 abbrev pub Done : Record → Call → Type 0
-Done r call = mathlib.Core.Path._≡_ (answerTo r call .said .number) 0
+Done r call = answerTo r call .said .number ≡ 0
 
 -- "every step starts from the record just handed back": for any kinds of calls, and for the card's
 abbrev pub runBy : {C : Type 0} → (Record → C → Record) → Record → List C → Record
