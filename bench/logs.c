@@ -1,9 +1,11 @@
 /*
- * Logs for the log program, made from a seed: logs SEED LINES [bench]
+ * Logs for the log program, made from a seed: logs SEED LINES [bench | frames L | unended L]
  *
- * The same seed always gives the same log. Without the word bench a log is meant to find differences: about half of
+ * The same seed always gives the same log. Without a further word a log is meant to find differences: about half of
  * its commands are in order and done, and the others come as near to what is in order as they can, on both roads and
- * at every boundary. With it a log is a day's ordinary traffic, for the clock.
+ * at every boundary. The others are for the clock. bench is a day's ordinary traffic. frames adds the sixteen zones and
+ * goes on with frames of that length to them, 3 to 255, with a right checksum; unended is the same log with another end
+ * byte, so that its frames are not of the shape and no checksum is taken.
  *
  * The generator follows which zones are present, with which address, range and state, so that it can aim. It knows
  * no answers. No expression makes two draws in an order that C leaves open, so that the log does not depend on the
@@ -393,6 +395,38 @@ static usize put_data(const struct command *c)
     return (usize)(p - frame) - 7;
 }
 
+/* So many bytes of data without order. */
+static usize random_data(usize data)
+{
+    for (usize i = 0; i < data; i++)
+        frame[7 + i] = (u8)below(256);
+    return data;
+}
+
+/* Changes a bit of a long frame, or none: where a sum that is taken in blocks of eight bytes could go wrong. */
+static void spoil_long_frame(void)
+{
+    usize body = frame[1], at;
+
+    switch (below(6)) {
+    case 0:    /* in the last byte of a block */
+        at = 4 + 8 * below((u32)body / 8) + 7;
+        break;
+    case 1:    /* in the first byte behind the last block, where there is one */
+        at = 4 + body / 8 * 8;
+        break;
+    case 2:    /* in the checksum */
+        at = 4 + body;
+        break;
+    case 3:    /* anywhere */
+        at = below((u32)frame_size);
+        break;
+    default:
+        return;
+    }
+    frame[at] ^= (u8)(1u << below(8));
+}
+
 /* Spoils the frame of a command, by one slip of many kinds. */
 static void spoil_frame(void)
 {
@@ -440,15 +474,12 @@ static void spoil_frame(void)
             frame[7 + i] = (u8)PICK(boundaries);
         close_frame(address, function, index, data);
         break;
-    case 12:    /* the longest frame */
-        for (usize i = 0; i < 252; i++)
-            frame[7 + i] = (u8)below(256);
+    case 12:    /* a long frame, often the longest */
+        data = random_data(below(2) ? 252 : between(200, 252));
         function = below(4) ? function : below(256);
         index = below(4) ? index : below(256);
-        close_frame(address, function, index, 252);
-        at = below(4 * 261);
-        if (at < 261)
-            frame[at] ^= (u8)(1u << below(8));
+        close_frame(address, function, index, data);
+        spoil_long_frame();
         break;
     case 13:    /* too short for its own three bytes */
         frame_size = 6 + below(3);
@@ -746,6 +777,25 @@ static void ordinary_line(void)
     }
 }
 
+/* ---- frames of one length */
+
+static u32 frame_length;    /* L; 0 where the log is another */
+static u32 end_byte = 0x16;
+
+static void frame_of_length(void)
+{
+    u32 number[3] = {some_zone(0), 0, 500};
+
+    if (known[number[0]].address == 0) {
+        number[1] = known[number[0]].address = free_address();
+        put_numbers('N', number, 3);
+        return;
+    }
+    close_frame(known[number[0]].address, 0x69, indices[below(GROUPS)], random_data(frame_length - 3));
+    frame[frame_size - 1] = (u8)end_byte;
+    put_frame();
+}
+
 /* ---- */
 
 static int number_of(const char *s, u64 *number)
@@ -763,14 +813,20 @@ static int number_of(const char *s, u64 *number)
 
 int main(int argc, char **argv)
 {
-    static const char usage[] = "usage: logs SEED LINES [bench]\n";
-    u64 lines, first;
+    static const char usage[] = "usage: logs SEED LINES [bench | frames L | unended L]\n";
+    u64 lines, first, length = 0;
     int bench = argc == 4 && strcmp(argv[3], "bench") == 0;
+    int unended = argc == 5 && strcmp(argv[3], "unended") == 0;
+    int frames = unended || (argc == 5 && strcmp(argv[3], "frames") == 0);
 
-    if ((argc != 3 && !bench) || !number_of(argv[1], &first) || !number_of(argv[2], &lines)) {
+    if ((argc != 3 && !bench && !frames) || !number_of(argv[1], &first) || !number_of(argv[2], &lines) ||
+        (frames && (!number_of(argv[4], &length) || length < 3 || length > 255))) {
         write(2, usage, sizeof usage - 1);
         return 2;
     }
+    frame_length = (u32)length;
+    if (unended)
+        end_byte = 0x17;
     seed = first;
     for (u64 i = 1; i <= lines; i++) {
         int last = i == lines && first % 2 == 1;
@@ -779,6 +835,8 @@ int main(int argc, char **argv)
             size = 0;
             if (bench)
                 ordinary_line();
+            else if (frames)
+                frame_of_length();
             else if (last && first % 4 == 3)
                 long_line();
             else

@@ -4,9 +4,10 @@
 #
 #     sh bench/speed.sh PROGRAM FOLDER [ROUNDS]
 #
-# PROGRAM is the proved program, FOLDER takes what is built and written; the two logs stay there for the next time. The
-# programs take turns. A run reads the log from a file and writes to /dev/null, and its time is its processor time,
-# which other work on the machine disturbs least; elapsed times are printed beside it. The outputs are compared first.
+# PROGRAM is the proved program, FOLDER takes what is built and written; the logs stay there for the next time. There is
+# one of ordinary traffic, a longer one like it, and one of the longest frames. The programs take turns. A run reads the
+# log from a file and writes to /dev/null, and its time is its processor time, which other work on the machine disturbs
+# least; elapsed times are printed beside it. The outputs are compared first.
 set -u
 unset CDPATH
 
@@ -27,11 +28,11 @@ bench_build "$here/logs.c" "$folder/logs"
 bench_build "$here/timed.c" "$folder/timed"
 
 # A log of so many lines, made once for each generator.
-bench_log() { # LINES
-    made=$folder/bench-$1.$(cksum <"$here/logs.c" | cut -d ' ' -f 1)
+bench_log() { # LINES KIND [LENGTH]
+    made=$folder/$2-$1.$(cksum <"$here/logs.c" | cut -d ' ' -f 1)
     if [ ! -f "$made" ]; then
-        rm -f "$folder/bench-$1".*
-        kit_run "$folder/logs" 2 "$1" bench >"$folder/making" && mv "$folder/making" "$made" ||
+        rm -f "$folder/$2-$1".*
+        kit_run "$folder/logs" 2 "$@" >"$folder/making" && mv "$folder/making" "$made" ||
             bench_fail "the log of $1 lines cannot be made"
     fi
 }
@@ -42,15 +43,17 @@ tell() { # WORDS
 kind="$(uname -m), $(nproc 2>/dev/null || echo '?') cores"
 if [ -n "$kit_emulator" ]; then kind="$kind; all programs run under the kit's emulator, whose time and memory are counted"; fi
 tell "on $kind"
-tell 'two logs are made, of 1,000,000 and 4,000,000 lines, if they are not there yet'
-bench_log 1000000
+tell 'three logs are made, if they are not there yet: two of ordinary traffic and one of the longest frames'
+bench_log 1000000 bench
 small=$made
-bench_log 4000000
+bench_log 4000000 bench
 large=$made
+bench_log 100000 frames 255
+longest=$made
 
 # The outputs first.
 tell 'the outputs of the three programs are compared'
-for log in "$small" "$large"; do
+for log in "$small" "$large" "$longest"; do
     kit_run "$folder/card-test" <"$log" >"$folder/speed.c" || bench_fail "the C program with the test failed"
     kit_run "$folder/card-plain" <"$log" >"$folder/speed.plain" || bench_fail "the C program without the test failed"
     kit_run "$program" <"$log" >"$folder/speed.proved" || bench_fail "the proved program failed"
@@ -72,6 +75,9 @@ while [ "$round" -lt "$rounds" ]; do
     measure test "$folder/card-test" "$small"
     measure plain "$folder/card-plain" "$small"
     measure large "$program" "$large"
+    measure longest "$program" "$longest"
+    measure longest-test "$folder/card-test" "$longest"
+    measure longest-plain "$folder/card-plain" "$longest"
     round=$((round + 1))
 done
 
@@ -92,15 +98,25 @@ ratio() { # NAME NAME
     awk -v a="$(median "$1" 1)" -v b="$(median "$2" 1)" 'BEGIN { printf "%.2f", a / b }'
 }
 
+beside_c() { # PROVED PLAIN TEST
+    printf 'processor time of the proved program, C = 1: %s (C without the test of soundness), %s (C testing it)\n' \
+        "$(ratio "$1" "$2")" "$(ratio "$1" "$3")"
+}
+
 printf '\n' >&2
 printf 'machine: %s\n' "$kind"
-printf 'a log of half lines and half frames, 2 in 100 of them refused, from a file to /dev/null; medians of %s rounds in turn:\n' "$rounds"
+printf 'each log from a file to /dev/null; medians of %s rounds in turn\n' "$rounds"
+printf '\nordinary traffic: half lines and half frames, 2 in 100 of them refused\n'
 row proved 1000000 'proved program'
 row plain 1000000 'C, no test'
 row test 1000000 'C, testing soundness'
 row large 4000000 'proved program'
-printf 'processor time of the proved program, C = 1: %s (C without the test of soundness), %s (C testing it)\n' \
-    "$(ratio proved plain)" "$(ratio proved test)"
+beside_c proved plain test
 printf 'processor time of the proved program, 1000000 lines = 1: %s (4000000 lines)\n' "$(ratio large proved)"
 printf 'proved program, peak memory: %s KiB for 1000000 lines, %s KiB for 4000000\n' \
     "$(median proved 3)" "$(median large 3)"
+printf '\nthe longest frames: 522 digits each, to a zone that is there, with a right checksum\n'
+row longest 100000 'proved program'
+row longest-plain 100000 'C, no test'
+row longest-test 100000 'C, testing soundness'
+beside_c longest longest-plain longest-test
