@@ -1,26 +1,13 @@
--- Laws of the checksum, as its loop cites them, and of a frame put together in a room. Assumes nothing.
-use Prim.Native.Nat.{ℕ, suc, _+_, _%_, _≤_, _<_}
-use mathlib.Core.Path.{_≡_, sym, ap, _∙_}
+-- A frame put together in a room. Assumes nothing.
+use Prim.Native.Nat.{ℕ, _+_}
+use mathlib.Core.Path.{_≡_, ap, _∙_}
 use mathlib.Core.List.{List, [], _∷_, _++_}
 use native.Mathlib.Omega.{arith}
-use native.Mathlib.Nat.{mod-add-mod, add-assoc, add-zero, mod-eq-of-lt}
-use native.Mathlib.Numerals.{add-one}
-use lib.ListN.{length, drop, getD, length-append, drop-of-length-le}
-use lib.Seq.{drop-cons}
+use lib.ListN.{length, length-append}
 use Rattle.wire.specs.Room.{filled, Filled, placed}
 use Rattle.wire.proofs.Room.{placed-first, placed-next}
-use Rattle.frame.specs.Sum.{sumOf, checksumOf}
+use Rattle.frame.specs.Sum.{checksumOf}
 use Rattle.frame.specs.Frame.{framed}
-
-pub sum-more : (l : List ℕ) (i s : ℕ) → i < length l → (s + sumOf (drop i l)) % 256 ≡ sumOf l % 256
-    → ((s + getD l i 0) % 256 + sumOf (drop (i + 1) l)) % 256 ≡ sumOf l % 256
-unfolding sumOf
-sum-more l i s h e =
-    rw (mod-add-mod, add-one) (ap (λ (k : ℕ). k % 256) (add-assoc s (getD l i 0) (sumOf (drop (suc i) l)) ∙ ap (λ (r : List ℕ). s + sumOf r) (sym (drop-cons l i 0 h))) ∙ e)
-
-pub sum-end : (l : List ℕ) (i s : ℕ) → length l ≤ i → s < 256 → (s + sumOf (drop i l)) % 256 ≡ sumOf l % 256 → s ≡ sumOf l % 256
-unfolding sumOf
-sum-end l i s h k e = sym (mod-eq-of-lt k) ∙ ap (λ (n : ℕ). n % 256) (sym (add-zero s)) ∙ ap (λ (r : List ℕ). (s + sumOf r) % 256) (sym (drop-of-length-le l h)) ∙ e
 
 -- head, body and tail, one after the other
 pub three-puts : (room body r₁ r₂ r₃ : List ℕ) (s : ℕ)

@@ -1,11 +1,11 @@
 -- Before each turn the sum so far and the bytes that are left make the checksum of all.
-use Prim.Native.Nat.{ℕ, _+_, _-_, _%_, _≤_, _<_}
-use mathlib.Core.Path.{_≡_, ap}
+use Prim.Native.Nat.{_+_, _-_, _%_, _≤_, _<_}
+use mathlib.Core.Path.{_≡_, _∙_}
 use native.Mathlib.Omega.{arith}
 use denote.Ref.{now}
-use lib.ListN.{length, drop, getD}
+use lib.ListN.{length, drop, length-take}
 use Rattle.frame.specs.Sum.{sumOf}
-use Rattle.frame.proofs.FrameLaws.{sum-more, sum-end}
+use Rattle.frame.proofs.SumLaws.{sum-block, block-length, sum-rest}
 use borrow.Author.Needs.{needs}
 use Rattle.frame.proofs.sums.checksum.Statement.{statement}
 use Rattle.frame.proofs.sums.checksum.Tie as tie
@@ -16,20 +16,28 @@ Inv-loop bytes sum₀ i₀ sum i = (i ≤ length bytes) × (sum < 256) × ((sum 
 abbrev μ-loop : tie.MeasureT-loop
 μ-loop bytes sum₀ i₀ sum i = length bytes - i
 
-add-sum : tie.Need-add-sum Inv-loop μ-loop
-add-sum c = omega (arith, c .before .shared-slice-known2 .given (c .before .before .before .loop .i))
+added-requires : tie.Need-added-requires Inv-loop μ-loop
+added-requires c κs =
+    let i = c .before .before .loop in
+    (i .inv .1, block-length _ (i .i) _ 8 (omega arith))
 
 loop-again : tie.Need-loop-again Inv-loop μ-loop
 loop-again c =
     let i = c .before .before .before .loop in
     let b = now (c .before .before .before .before .before .args .bytes) in
-    let e : (i .sum + c .wide .result) % 256 ≡ (i .sum + getD b (i .i) 0) % 256 = ap (λ (x : ℕ). (i .sum + x) % 256) (c .wide .ensures) in
-    (search needs, search needs, rw e (sum-more b (i .i) (i .sum) (c .before .before .loop-test .taken) (i .inv .2)))
+    (omega arith, omega arith, rw (c .added .ensures) (sum-block b (i .i) _ (i .sum) ∙ i .inv .2))
+
+added-requires-2 : tie.Need-added-requires-2 Inv-loop μ-loop
+added-requires-2 c κs =
+    let i = c .before .before .loop in
+    let b = now (c .before .before .before .before .args .bytes) in
+    (i .inv .1, omega (arith, length-take (length b - i .i) (drop (i .i) b)))
 
 returns : tie.Need-returns Inv-loop μ-loop
 returns c =
-    let i = c .before .loop in
-    sum-end (now (c .before .before .before .args .bytes)) (i .i) _ (c .loop-test .left) (i .inv .1) (i .inv .2)
+    let i = c .before .before .before .loop in
+    let b = now (c .before .before .before .before .before .args .bytes) in
+    rw (c .added2 .ensures) (sum-rest b (i .i) (i .sum) ∙ i .inv .2)
 
 pub checksum-spec : {M : Type 1} → statement M
 checksum-spec =
@@ -39,10 +47,17 @@ checksum-spec =
     μ-loop
     (λ c. search needs)
     (λ c. search needs)
-    (λ c κs. search needs)
-    add-sum
+    (λ c. search needs)
+    (λ c. search needs)
+    (λ c. search needs)
+    (λ c. search needs)
+    added-requires
     (λ c. search needs)
     (λ c. search needs)
     loop-again
+    (λ c. search needs)
+    (λ c. search needs)
+    (λ c. search needs)
+    added-requires-2
     (λ c. search needs)
     returns)
