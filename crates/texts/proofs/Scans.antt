@@ -1,24 +1,58 @@
--- What the search for a line feed cites: the first one from index i on. Assumes nothing.
-use Prim.Native.Nat.{ℕ, _+_, _≤_, _<_}
-use mathlib.Core.Path.{_≡_}
-use mathlib.Core.List.{List}
+-- What the search for a line feed cites, over the length of a part. Assumes nothing.
+use Prim.Native.Nat.{ℕ, zero, suc, _+_, _-_, _≤_, _<_}
+use mathlib.Core.Path.{_≡_, refl, sym, _∙_}
+use mathlib.Core.Bool.{Bool, true, false, _||_}
+use mathlib.Core.List.{List, [], _∷_}
 use native.Mathlib.Omega.{arith}
+use native.Mathlib.Nat.{zero-add}
 use native.Mathlib.Numerals.{add-one}
-use lib.ListN.{length, drop, getD, drop-of-length-le}
-use lib.Seq.{drop-cons}
-use borrow.Author.Tests.{eq-eqb, ne-eqb}
-use Rattle.bytes.specs.Bytes.{indexOf, indexAfter}
+use lib.Dec.{eqb}
+use lib.ListN.{length, take, drop, getD, length-drop, drop-of-length-le}
+use lib.Seq.{drop-cons, drop-drop, take-length}
+use Rattle.bytes.specs.Bytes.{indexOf, indexAfter, slice}
+use Rattle.zone.proofs.Tests.{neither}
 use Rattle.texts.specs.Texts.{lineFeed}
+use Rattle.texts.specs.Inner.{hasFeed}
 
-pub feed-here : (l : List ℕ) (i : ℕ) → i < length l → getD l i 0 ≡ lineFeed → i + indexOf lineFeed (drop i l) ≡ i
-unfolding indexOf indexAfter
-feed-here l i h e = rw (drop-cons l i 0 h, eq-eqb _ _ e) (omega arith)
+-- ---- whether a line feed is among the bytes
 
--- k is the index behind i
-pub feed-later : (l : List ℕ) (i k : ℕ) → k ≡ i + 1 → i < length l → (getD l i 0 ≡ lineFeed → ⊥) → i + indexOf lineFeed (drop i l) ≡ k + indexOf lineFeed (drop k l)
-unfolding indexOf indexAfter
-feed-later l i k q h e = rw (q, add-one, drop-cons l i 0 h, ne-eqb _ _ e) (omega arith)
+or-assoc : (r s t : Bool) → ((r || s) || t) ≡ (r || (s || t))
+or-assoc true s t = refl
+or-assoc false s t = refl
 
-pub feed-nowhere : (l : List ℕ) (i : ℕ) → length l ≤ i → i + indexOf lineFeed (drop i l) ≡ i
-unfolding indexOf
-feed-nowhere l i h = rw (drop-of-length-le l h) (omega arith)
+or-false : (t : Bool) → (t || false) ≡ t
+or-false true = refl
+or-false false = refl
+
+-- One byte more.
+pub has-more : (l : List ℕ) (i : ℕ) (t : Bool) → i < length l → (t || hasFeed (drop i l)) ≡ hasFeed l
+    → ((t || eqb (getD l i 0) lineFeed) || hasFeed (drop (i + 1) l)) ≡ hasFeed l
+unfolding hasFeed
+has-more l i t h e = rw (add-one i, or-assoc t (eqb (getD l i 0) lineFeed) (hasFeed (drop (suc i) l))) (rw (drop-cons l i 0 h) at e)
+
+pub has-end : (l : List ℕ) (i : ℕ) (t : Bool) → length l ≤ i → (t || hasFeed (drop i l)) ≡ hasFeed l → t ≡ hasFeed l
+unfolding hasFeed
+has-end l i t h e = rw (drop-of-length-le l h, or-false t) at e
+
+-- ---- where the first one is
+
+passed : (k : ℕ) (l : List ℕ) → k ≤ length l → hasFeed (take k l) ≡ false → indexOf lineFeed l ≡ k + indexOf lineFeed (drop k l)
+unfolding hasFeed indexOf indexAfter
+passed zero l h e = sym (zero-add (indexOf lineFeed l))
+passed (suc k) [] h e = absurd (omega arith)
+passed (suc k) (x ∷ l) h e =
+    let n = neither (eqb x lineFeed) (hasFeed (take k l)) e in
+    rw (n .0) (omega (arith, passed k l (omega arith) (n .1)))
+
+-- A part of k bytes from index i on that has none is passed.
+pub feed-behind : (l : List ℕ) (i k : ℕ) → i + k ≤ length l → hasFeed (take (i + k - i) (drop i l)) ≡ false
+    → i + indexOf lineFeed (drop i l) ≡ i + k + indexOf lineFeed (drop (i + k) l)
+feed-behind l i k h e =
+    let n : i + k - i ≡ k = omega arith in
+    let p = passed k (drop i l) (omega (arith, length-drop i l)) (rw n at e) in
+    rw (← drop-drop k i l) (omega (arith, p))
+
+-- The library's search up to the end.
+pub feed-found : (l : List ℕ) (i : ℕ) → i + indexOf lineFeed (slice i (length l) l) ≡ i + indexOf lineFeed (drop i l)
+unfolding slice
+feed-found l i = rw (take-length l)

@@ -1,6 +1,6 @@
 -- What the functions on the way come to: steps for a reader in a loop, each proved equal to what Numbers and Texts say. No promise of the log cites them.
 use Prim.Native.Nat.{ℕ, zero, suc, _+_}
-use mathlib.Core.Bool.{cond}
+use mathlib.Core.Bool.{Bool, false, cond, _||_}
 use mathlib.Core.List.{List, [], _∷_}
 use lib.ListN.{getD, take, drop}
 use lib.Dec.{eqb}
@@ -13,7 +13,7 @@ use Rattle.texts.specs.declared.decimals.Numeral.the-variants as numeral
 use Rattle.texts.specs.declared.hexadecimal.Count.{Count}
 use Rattle.texts.specs.declared.hexadecimal.Count.the-variants as count
 use Rattle.texts.specs.Numbers.{decimalOf, digitRead}
-use Rattle.texts.specs.Texts.{tab, field}
+use Rattle.texts.specs.Texts.{tab, lineFeed, field}
 
 -- ---- decimals
 
@@ -52,3 +52,10 @@ counted (count.Of n) room = are (take n room)
 abbrev pub countOf : Count → ℕ
 countOf count.Bad = 0
 countOf (count.Of n) = n
+
+-- ---- lines
+
+-- whether a line feed is among the bytes
+unfoldable pub hasFeed : List ℕ → Bool
+hasFeed [] = false
+hasFeed (x ∷ l) = eqb x lineFeed || hasFeed l

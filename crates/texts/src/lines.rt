@@ -4,34 +4,33 @@ ghost use Prim.Native.Nat.{_+_, _≤_};
 ghost use lib.ListN.{length, drop};
 ghost use Rattle.bytes.specs.Bytes.{indexOf};
 ghost use Rattle.texts.specs.Texts.{lineFeed};
+ghost use Rattle.texts.specs.Inner.{hasFeed};
 
-// The index of the first line feed from `from` on, or the block's length. Four bytes are looked at in a
-// turn, which is faster than one, and the last ones singly.
+// Whether a line feed is among the bytes. Every byte is looked at, so that many can be at once.
+fn has_feed(part: &[u8]) -> bool
+    ensures { λ r. ⌜ r ≡ hasFeed (now (part .entry)) ⌝ }
+{
+    let mut found = false;
+    let mut i = 0;
+    while i < part.len() {
+        found = found | (part[i] == b'\n');
+        i += 1;
+    }
+    found
+}
+
+// The index of the first line feed from `from` on, or the block's length. Parts of sixteen bytes without one are passed
+// whole, and what is left is looked at singly.
 pub fn line_end(block: &[u8], from: usize) -> usize
     requires { ⌜ from ≤ length (now block) ⌝ }
     ensures { λ r. ⌜ r ≡ from + indexOf lineFeed (drop from (now (block .entry))) ⌝ }
 {
     let mut i = from;
-    while 4 <= block.len() - i {
-        if block[i] == b'\n' {
-            return i;
+    while 16 <= block.len() - i {
+        if has_feed(&block[i..i + 16]) {
+            return bytes::scan::find(block, i, block.len(), b'\n');
         }
-        if block[i + 1] == b'\n' {
-            return i + 1;
-        }
-        if block[i + 2] == b'\n' {
-            return i + 2;
-        }
-        if block[i + 3] == b'\n' {
-            return i + 3;
-        }
-        i += 4;
+        i += 16;
     }
-    while i < block.len() {
-        if block[i] == b'\n' {
-            return i;
-        }
-        i += 1;
-    }
-    i
+    bytes::scan::find(block, i, block.len(), b'\n')
 }
