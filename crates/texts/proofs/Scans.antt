@@ -1,7 +1,7 @@
 -- What the search for a line feed cites, over the length of a part. Assumes nothing.
 use Prim.Native.Nat.{ℕ, zero, suc, _+_, _-_, _≤_, _<_}
-use mathlib.Core.Path.{_≡_, refl, sym, _∙_}
-use mathlib.Core.Bool.{Bool, true, false, _||_}
+use mathlib.Core.Path.{_≡_, sym}
+use mathlib.Core.Bool.{Bool, false, _||_, or-assoc, or-false}
 use mathlib.Core.List.{List, [], _∷_}
 use native.Mathlib.Omega.{arith}
 use native.Mathlib.Nat.{zero-add}
@@ -15,14 +15,6 @@ use Rattle.texts.specs.Texts.{lineFeed}
 use Rattle.texts.specs.Inner.{hasFeed}
 
 -- ---- whether a line feed is among the bytes
-
-or-assoc : (r s t : Bool) → ((r || s) || t) ≡ (r || (s || t))
-or-assoc true s t = refl
-or-assoc false s t = refl
-
-or-false : (t : Bool) → (t || false) ≡ t
-or-false true = refl
-or-false false = refl
 
 -- One byte more.
 pub has-more : (l : List ℕ) (i : ℕ) (t : Bool) → i < length l → (t || hasFeed (drop i l)) ≡ hasFeed l
