@@ -3,13 +3,14 @@
  *
  * The same seed always gives the same log. Without a further word a log is meant to find differences: about half of
  * its commands are in order and done, and the others come as near to what is in order as they can, on both roads and
- * at every boundary. The others are for the clock. bench is a day's ordinary traffic. frames adds the sixteen zones and
+ * at every boundary. A log with a word is for the clock: bench is a day's ordinary traffic. frames adds the sixteen zones and
  * goes on with frames of that length to them, 3 to 255, with a right checksum; unended is the same log with another end
  * byte, so that its frames are not of the shape and no checksum is taken.
  *
  * The generator follows which zones are present, with which address, range and state, so that it can aim. It knows
  * no answers. No expression makes two draws in an order that C leaves open, so that the log does not depend on the
- * compiler. A log of an odd seed has no line feed after its last line; each second one of those lines is too long.
+ * compiler. A log of an odd seed has no line feed after its last line; without a word each second one of those lines is
+ * too long.
  */
 
 #include "output.h"
@@ -784,14 +785,15 @@ static u32 end_byte = 0x16;
 
 static void frame_of_length(void)
 {
-    u32 number[3] = {some_zone(0), 0, 500};
+    u32 number[3] = {some_zone(0), 0, 500}, index;
 
     if (known[number[0]].address == 0) {
         number[1] = known[number[0]].address = free_address();
         put_numbers('N', number, 3);
         return;
     }
-    close_frame(known[number[0]].address, 0x69, indices[below(GROUPS)], random_data(frame_length - 3));
+    index = indices[below(GROUPS)];
+    close_frame(known[number[0]].address, 0x69, index, random_data(frame_length - 3));
     frame[frame_size - 1] = (u8)end_byte;
     put_frame();
 }

@@ -29,9 +29,10 @@ bench_build "$here/timed.c" "$folder/timed"
 
 # A log of so many lines, made once for each generator.
 bench_log() { # LINES KIND [LENGTH]
-    made=$folder/$2-$1.$(cksum <"$here/logs.c" | cut -d ' ' -f 1)
+    name=$2${3:+-$3}-$1
+    made=$folder/$name.$(cksum <"$here/logs.c" | cut -d ' ' -f 1)
     if [ ! -f "$made" ]; then
-        rm -f "$folder/$2-$1".*
+        rm -f "$folder/$name".*
         kit_run "$folder/logs" 2 "$@" >"$folder/making" && mv "$folder/making" "$made" ||
             bench_fail "the log of $1 lines cannot be made"
     fi

@@ -36,7 +36,8 @@ pub fn digit_values() -> [u8; 256]
     values
 }
 
-// The bytes of pairs of digits, put at the front of the room. All values seen are joined, and looked at behind the last.
+// The bytes of pairs of digits, put at the front of the room. All values seen are joined, and the result is
+// tested once, after the last digit.
 pub fn unhex(digits: &[u8], values: &[u8; 256], room: &mut [u8]) -> Count
     requires { ⌜ (length (now digits) ≤ 522) × (now values ≡ digitValues) × (261 ≤ length (now room)) ⌝ }
     ensures { λ r. ⌜ counted r (now (room .exit)) ≡ bytesRead (now (digits .entry)) ⌝ }
