@@ -359,7 +359,7 @@ enum { HEAD = 0x68, SHORT_HEAD = 0x10, TAIL = 0x16 };
 enum { READ = 0x89, WRITE = 0x69, REPLY = 0x00 };
 enum { I_AHUE = 0x0B, I_RRUE = 0x15, I_SOLW = 0x35, I_HZBG = 0x70 };
 
-/* A plain loop: the compiler makes of it one that adds 32 bytes a turn, and finds nothing better in another form. */
+/* A plain loop: the compiler makes of it additions of 32 bytes at a time. */
 static u8 sum(const u8 *bytes, usize size)
 {
     u32 total = 0;

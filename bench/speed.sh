@@ -6,8 +6,9 @@
 #
 # PROGRAM is the proved program, FOLDER takes what is built and written; the logs stay there for the next time. There is
 # one of ordinary traffic, a longer one like it, and one of the longest frames. The programs take turns. A run reads the
-# log from a file and writes to /dev/null, and its time is its processor time, which other work on the machine disturbs
-# least; elapsed times are printed beside it. The outputs are compared first.
+# log from a file and writes to /dev/null, and its time is its processor time. Ratios are of the least times: other work
+# on the machine adds to a time and never takes from it. Those of the medians stand beside them; where the two are far
+# apart the machine was busy. The outputs are compared first.
 set -u
 unset CDPATH
 
@@ -16,7 +17,7 @@ here=$(cd "$(dirname "$0")" && pwd -P) || exit 1
 . "$here/tools.sh"
 
 [ $# -ge 2 ] || bench_fail "usage: speed.sh PROGRAM FOLDER [ROUNDS]"
-program=$1 folder=$2 rounds=${3:-15}
+program=$1 folder=$2 rounds=${3:-40}
 [ -f "$program" ] || bench_fail "there is no program $program"
 case $program in */*) ;; *) program=./$program ;; esac
 
@@ -49,7 +50,7 @@ bench_log 1000000 bench
 small=$made
 bench_log 4000000 bench
 large=$made
-bench_log 100000 frames 255
+bench_log 20000 frames 255
 longest=$made
 
 # The outputs first.
@@ -75,49 +76,56 @@ while [ "$round" -lt "$rounds" ]; do
     measure proved "$program" "$small"
     measure test "$folder/card-test" "$small"
     measure plain "$folder/card-plain" "$small"
-    measure large "$program" "$large"
+    [ $((round % 4)) -ne 0 ] || measure large "$program" "$large"
     measure longest "$program" "$longest"
     measure longest-test "$folder/card-test" "$longest"
     measure longest-plain "$folder/card-plain" "$longest"
     round=$((round + 1))
 done
 
-# The median of a column of a program's times: 1 processor time, 2 elapsed time, both in microseconds, 3 peak in KiB.
+# A program's times are lines of processor time and elapsed time, both in microseconds, and peak memory in KiB.
+column() { # NAME COLUMN
+    cut -d ' ' -f "$2" "$folder/times-$1" | sort -n
+}
+
+least() { # NAME COLUMN
+    column "$1" "$2" | head -n 1
+}
+
 median() { # NAME COLUMN
-    cut -d ' ' -f "$2" "$folder/times-$1" | sort -n |
-        awk '{ v[NR] = $1 } END { print NR % 2 ? v[(NR + 1) / 2] : int((v[NR / 2] + v[NR / 2 + 1]) / 2) }'
+    column "$1" "$2" | awk '{ v[NR] = $1 } END { print NR % 2 ? v[(NR + 1) / 2] : int((v[NR / 2] + v[NR / 2 + 1]) / 2) }'
 }
 
 row() { # NAME LINES WHAT-IT-IS
-    awk -v lines="$2" -v what="$3" -v cpu="$(median "$1" 1)" -v elapsed="$(median "$1" 2)" 'BEGIN {
-        printf "%-24s %8d lines  %9.0f lines/s  %7.1f ms processor  %7.1f ms elapsed\n",
-            what, lines, 1e6 * lines / cpu, cpu / 1000, elapsed / 1000
+    awk -v lines="$2" -v what="$3" -v least="$(least "$1" 1)" -v median="$(median "$1" 1)" 'BEGIN {
+        printf "%-24s %8d lines  %9.0f lines/s  %7.1f ms least  %7.1f ms median\n",
+            what, lines, 1e6 * lines / least, least / 1000, median / 1000
     }'
 }
 
-ratio() { # NAME NAME
-    awk -v a="$(median "$1" 1)" -v b="$(median "$2" 1)" 'BEGIN { printf "%.2f", a / b }'
+ratio() { # NAME NAME least|median
+    awk -v a="$($3 "$1" 1)" -v b="$($3 "$2" 1)" 'BEGIN { printf "%.2f", a / b }'
 }
 
 beside_c() { # PROVED PLAIN TEST
-    printf 'processor time of the proved program, C = 1: %s (C without the test of soundness), %s (C testing it)\n' \
-        "$(ratio "$1" "$2")" "$(ratio "$1" "$3")"
+    printf 'the proved program, C = 1: %s (C without the test of soundness), %s (C testing it); by medians %s and %s\n' \
+        "$(ratio "$1" "$2" least)" "$(ratio "$1" "$3" least)" "$(ratio "$1" "$2" median)" "$(ratio "$1" "$3" median)"
 }
 
 printf '\n' >&2
 printf 'machine: %s\n' "$kind"
-printf 'each log from a file to /dev/null; medians of %s rounds in turn\n' "$rounds"
+printf 'processor time of each log from a file to /dev/null, %s rounds in turn\n' "$rounds"
 printf '\nordinary traffic: half lines and half frames, 2 in 100 of them refused\n'
 row proved 1000000 'proved program'
 row plain 1000000 'C, no test'
 row test 1000000 'C, testing soundness'
 row large 4000000 'proved program'
 beside_c proved plain test
-printf 'processor time of the proved program, 1000000 lines = 1: %s (4000000 lines)\n' "$(ratio large proved)"
+printf 'the proved program, 1000000 lines = 1: %s (4000000 lines)\n' "$(ratio large proved least)"
 printf 'proved program, peak memory: %s KiB for 1000000 lines, %s KiB for 4000000\n' \
     "$(median proved 3)" "$(median large 3)"
 printf '\nthe longest frames: 522 digits each, to a zone that is there, with a right checksum\n'
-row longest 100000 'proved program'
-row longest-plain 100000 'C, no test'
-row longest-test 100000 'C, testing soundness'
+row longest 20000 'proved program'
+row longest-plain 20000 'C, no test'
+row longest-test 20000 'C, testing soundness'
 beside_c longest longest-plain longest-test

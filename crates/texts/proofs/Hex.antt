@@ -1,16 +1,15 @@
 -- Laws of bytes in digits, as the loops cite them: the entries of the table, and a pair of digits at a time. Assumes nothing.
-use Prim.Native.Nat.{ℕ, zero, suc, _+_, _-_, _*_, _/_, _%_, _^_, _≤_, _<_}
+use Prim.Native.Nat.{ℕ, zero, suc, _+_, _-_, _*_, _/_, _%_, _≤_, _<_}
 use mathlib.Core.Path.{_≡_, refl, sym, ap, _∙_}
-use mathlib.Core.Bool.{Bool, true, false, cond, _||_, or-assoc}
+use mathlib.Core.Bool.{Bool, true, false, cond, _||_}
 use mathlib.Core.List.{List, [], _∷_, _++_, append-assoc, append-nil}
 use native.Mathlib.Omega.{arith}
 use native.Mathlib.Nat.{zero-add, add-zero, add-suc, suc-add}
 use native.Mathlib.Numerals.{add-one}
-use lib.Bits.{bitOr, or-add-and, or-lt, and-le-l, and-le-r}
 use lib.Dec.{leb, ltb}
 use lib.ListN.{length, getD, take, drop, set, length-append, drop-of-length-le}
 use lib.Seq.{drop-cons, take-suc, take-suc-set, append-snoc, set-at, take-all, length-take-le}
-use borrow.Author.Tests.{leb-true, ltb-true, ltb-false, lt-ltb, le-ltb}
+use borrow.Author.Tests.{leb-true, ltb-true, ltb-false}
 use Rattle.zone.specs.Lists.{within}
 use Rattle.zone.proofs.Tests.{and-r, neither}
 use Rattle.wire.specs.declared.Figure.{Figure}
@@ -60,15 +59,12 @@ module _ (values : List ℕ) (x y : ℕ) (table : values ≡ digitValues) (h : x
   low : getD values y 0 ≡ digitValue y
   low = rw table (value-at y k)
 
-  pub byte-is : (ltb 15 (getD values x 0) || ltb 15 (getD values y 0)) ≡ false
-      → byteRead (digitRead x) (digitRead y) ≡ Value (getD values x 0 % 16 * 16 + getD values y 0 % 16)
+  pub byte-is : (ltb 15 (getD values x 0) || ltb 15 (getD values y 0)) ≡ false → byteRead (digitRead x) (digitRead y) ≡ Value (getD values x 0 * 16 + getD values y 0)
   byte-is t =
       let n = neither (ltb 15 (getD values x 0)) (ltb 15 (getD values y 0)) t in
       let i : digitValue x ≤ 15 = rw high at (ltb-false 15 (getD values x 0) (n .0)) in
       let j : digitValue y ≤ 15 = rw low at (ltb-false 15 (getD values y 0) (n .1)) in
-      let p : digitValue x % 16 ≡ digitValue x = omega arith in
-      let q : digitValue y % 16 ≡ digitValue y = omega arith in
-      rw (high, low, p, q, digit-is x i, digit-is y j)
+      rw (high, low, digit-is x i, digit-is y j)
 
   pub byte-bad : (ltb 15 (getD values x 0) || ltb 15 (getD values y 0)) ≡ true → byteRead (digitRead x) (digitRead y) ≡ Bad
   byte-bad t = by-test (ltb 15 (getD values x 0)) refl
@@ -82,27 +78,11 @@ module _ (values : List ℕ) (x y : ℕ) (table : values ≡ digitValues) (h : x
           let j : 15 < digitValue y = rw low at (ltb-true 15 (getD values y 0) u) in
           rw (digit-bad y j) (byte-bad-low (digitRead x))
 
--- ---- the values seen, joined bit by bit
-
-or-left : (a b : ℕ) → a ≤ bitOr a b
-or-left a b = omega (arith, or-add-and a b, and-le-r a b)
-
-or-right : (a b : ℕ) → b ≤ bitOr a b
-or-right a b = omega (arith, or-add-and a b, and-le-l a b)
-
-seen-both : (a b : ℕ) → ltb 15 (bitOr a b) ≡ (ltb 15 a || ltb 15 b)
-seen-both a b = by-tests (ltb 15 a) (ltb 15 b) refl refl
-  where
-    by-tests : (s t : Bool) → ltb 15 a ≡ s → ltb 15 b ≡ t → ltb 15 (bitOr a b) ≡ (s || t)
-    by-tests true t p q = lt-ltb 15 (bitOr a b) (omega (arith, ltb-true 15 a p, or-left a b))
-    by-tests false true p q = lt-ltb 15 (bitOr a b) (omega (arith, ltb-true 15 b q, or-right a b))
-    by-tests false false p q =
-        let h : a < 2 ^ 4 = omega (arith, ltb-false 15 a p) in
-        let k : b < 2 ^ 4 = omega (arith, ltb-false 15 b q) in
-        le-ltb 15 (bitOr a b) (omega (arith, or-lt 4 a b h k))
-
-seen-all : (a b c : ℕ) → ltb 15 (bitOr (bitOr a b) c) ≡ (ltb 15 a || (ltb 15 b || ltb 15 c))
-seen-all a b c = rw (seen-both (bitOr a b) c, seen-both a b) (or-assoc (ltb 15 a) (ltb 15 b) (ltb 15 c))
+-- the values of two digits make a byte
+pub byte-fits : (values : List ℕ) (x y : ℕ) → (ltb 15 (getD values x 0) || ltb 15 (getD values y 0)) ≡ false → getD values x 0 * 16 + getD values y 0 < 256
+byte-fits values x y t =
+    let n = neither (ltb 15 (getD values x 0)) (ltb 15 (getD values y 0)) t in
+    omega (arith, ltb-false 15 (getD values x 0) (n .0), ltb-false 15 (getD values y 0) (n .1))
 
 -- ---- bytes from digits
 
@@ -111,7 +91,7 @@ abbrev pub prepend : List ℕ → Numbers → Numbers
 prepend l none = none
 prepend l (are ns) = are (l ++ ns)
 
-prepend-nil : (ns : Numbers) → ns ≡ prepend [] ns
+pub prepend-nil : (ns : Numbers) → ns ≡ prepend [] ns
 prepend-nil none = refl
 prepend-nil (are ns) = refl
 
@@ -139,44 +119,23 @@ pair-read l i h =
     let j : suc (2 * i) < length l = omega arith in
     rw (m, add-one, drop-cons l (2 * i) 0 k, drop-cons l (suc (2 * i)) 0 j)
 
--- what the values seen and the digits that are left say of the bytes: those put so far, and then those of the digits that are left, or none
-abbrev pub sofar : ℕ → List ℕ → List ℕ → ℕ → Numbers
-sofar seen l room i = cond (ltb 15 seen) none (prepend (take i room) (bytesRead (drop (2 * i) l)))
+-- one byte more: the bytes are those put so far, and then those of the digits that are left
+pub read-more : (l room : List ℕ) (i b : ℕ) → 2 * i + 1 < length l → i < length room
+    → byteRead (digitRead (getD l (2 * i) 0)) (digitRead (getD l (2 * i + 1) 0)) ≡ Value b
+    → bytesRead l ≡ prepend (take i room) (bytesRead (drop (2 * i) l))
+    → bytesRead l ≡ prepend (take (i + 1) (set room i b)) (bytesRead (drop (2 * (i + 1)) l))
+read-more l room i b h k v e =
+    let s : take (i + 1) (set room i b) ≡ take i room ++ (b ∷ []) = rw (add-one i) (take-suc-set room i b k) in
+    e ∙ rw (pair-read l i h, v, s) (prepend-join (take i room) b (bytesRead (drop (2 * (i + 1)) l)))
 
-pub read-none : (l room : List ℕ) → bytesRead l ≡ sofar 0 l room 0
-read-none l room = prepend-nil (bytesRead l)
+pub read-bad : (l p : List ℕ) (i : ℕ) → 2 * i + 1 < length l
+    → byteRead (digitRead (getD l (2 * i) 0)) (digitRead (getD l (2 * i + 1) 0)) ≡ Bad
+    → bytesRead l ≡ prepend p (bytesRead (drop (2 * i) l)) → bytesRead l ≡ none
+read-bad l p i h v e = e ∙ rw (pair-read l i h, v)
 
--- one byte more, by the values of its digits
-pub read-more : (l room : List ℕ) (i seen h w : ℕ) → 2 * i + 1 < length l → i < length room
-    → ((ltb 15 h || ltb 15 w) ≡ false → byteRead (digitRead (getD l (2 * i) 0)) (digitRead (getD l (2 * i + 1) 0)) ≡ Value (h % 16 * 16 + w % 16))
-    → ((ltb 15 h || ltb 15 w) ≡ true → byteRead (digitRead (getD l (2 * i) 0)) (digitRead (getD l (2 * i + 1) 0)) ≡ Bad)
-    → bytesRead l ≡ sofar seen l room i
-    → bytesRead l ≡ sofar (bitOr (bitOr seen h) w) l (set room i (h % 16 * 16 + w % 16)) (i + 1)
-read-more l room i seen h w n k is bad e = rw (seen-all seen h w) (by-tests (ltb 15 seen) (ltb 15 h || ltb 15 w) e is bad)
-  where
-    b : ℕ
-    b = h % 16 * 16 + w % 16
-
-    put : take (i + 1) (set room i b) ≡ take i room ++ (b ∷ [])
-    put = rw (add-one i) (take-suc-set room i b k)
-
-    by-tests : (s t : Bool)
-        → bytesRead l ≡ cond s none (prepend (take i room) (bytesRead (drop (2 * i) l)))
-        → (t ≡ false → byteRead (digitRead (getD l (2 * i) 0)) (digitRead (getD l (2 * i + 1) 0)) ≡ Value b)
-        → (t ≡ true → byteRead (digitRead (getD l (2 * i) 0)) (digitRead (getD l (2 * i + 1) 0)) ≡ Bad)
-        → bytesRead l ≡ cond (s || t) none (prepend (take (i + 1) (set room i b)) (bytesRead (drop (2 * (i + 1)) l)))
-    by-tests true t f v o = f
-    by-tests false true f v o = f ∙ rw (pair-read l i n, o refl)
-    by-tests false false f v o = f ∙ rw (pair-read l i n, v refl, put) (prepend-join (take i room) b (bytesRead (drop (2 * (i + 1)) l)))
-
-pub read-bad : (l room : List ℕ) (i seen : ℕ) → 15 < seen → bytesRead l ≡ sofar seen l room i → bytesRead l ≡ none
-read-bad l room i seen h e = rw (lt-ltb 15 seen h) at e
-
-pub read-all : (l room : List ℕ) (i seen : ℕ) → length l ≤ 2 * i → seen ≤ 15 → bytesRead l ≡ sofar seen l room i → bytesRead l ≡ are (take i room)
+pub read-all : (l p : List ℕ) (i : ℕ) → length l ≤ 2 * i → bytesRead l ≡ prepend p (bytesRead (drop (2 * i) l)) → bytesRead l ≡ are p
 unfolding bytesRead
-read-all l room i seen h k e =
-    let f : bytesRead l ≡ prepend (take i room) (bytesRead (drop (2 * i) l)) = rw (le-ltb 15 seen k) at e in
-    f ∙ rw (drop-of-length-le l h, append-nil (take i room))
+read-all l p i h e = e ∙ rw (drop-of-length-le l h, append-nil p)
 
 -- ---- digits from bytes
 

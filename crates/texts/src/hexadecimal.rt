@@ -36,8 +36,7 @@ pub fn digit_values() -> [u8; 256]
     values
 }
 
-// The bytes of pairs of digits, put at the front of the room. All values seen are joined, and the result is
-// tested once, after the last digit.
+// The bytes of pairs of digits, put at the front of the room.
 pub fn unhex(digits: &[u8], values: &[u8; 256], room: &mut [u8]) -> Count
     requires { ⌜ (length (now digits) ≤ 522) × (now values ≡ digitValues) × (261 ≤ length (now room)) ⌝ }
     ensures { λ r. ⌜ counted r (now (room .exit)) ≡ bytesRead (now (digits .entry)) ⌝ }
@@ -47,17 +46,15 @@ pub fn unhex(digits: &[u8], values: &[u8; 256], room: &mut [u8]) -> Count
         return Count::Bad;
     }
     let n = digits.len() / 2;
-    let mut seen: u8 = 0;
     let mut i: usize = 0;
     while i < n {
         let high = values[digits[2 * i] as usize];
         let low = values[digits[2 * i + 1] as usize];
-        seen = seen | high | low;
-        room[i] = high % 16 * 16 + low % 16;
+        if (15 < high) | (15 < low) {
+            return Count::Bad;
+        }
+        room[i] = high * 16 + low;
         i += 1;
-    }
-    if 15 < seen {
-        return Count::Bad;
     }
     Count::Of(n)
 }

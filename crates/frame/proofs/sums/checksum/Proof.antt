@@ -17,9 +17,7 @@ abbrev μ-loop : tie.MeasureT-loop
 μ-loop bytes sum₀ i₀ sum i = length bytes - i
 
 added-requires : tie.Need-added-requires Inv-loop μ-loop
-added-requires c κs =
-    let i = c .before .before .loop in
-    (i .inv .1, block-length _ (i .i) _ 8 (omega arith))
+added-requires c κs = (omega arith, block-length _ (c .before .before .loop .i) _ 8 (omega arith))
 
 loop-again : tie.Need-loop-again Inv-loop μ-loop
 loop-again c =
