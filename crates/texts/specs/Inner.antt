@@ -1,4 +1,4 @@
--- What the functions on the way come to: steps for a reader in a loop, each proved equal to what Numbers and Texts say. No promise of the log cites them.
+-- What the functions on the way come to: steps for a reader in a loop, each tied by a law of proofs/ to what Numbers and Texts say. No promise of the log cites them.
 use Prim.Native.Nat.{ℕ, zero, suc, _+_}
 use mathlib.Core.Bool.{Bool, false, cond, _||_}
 use mathlib.Core.List.{List, [], _∷_}
