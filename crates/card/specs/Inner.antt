@@ -1,7 +1,8 @@
--- What the functions below the calls come to. No rule of document 01 stands here, and no promise of a call that document 01 names cites it; `ask`, which the roads call, is promised by askOf below.
+-- What the functions below the calls come to. No rule of document 01 stands here, and no promise of a call that document 01 names cites it; `ask` and `range_at`, which the roads call, are promised by askOf and rangeAt below.
 use Prim.Native.Nat.{ℕ}
 use mathlib.Core.Bool.{Bool, true, false, cond, not}
 use mathlib.Core.List.{[], _∷_}
+use lib.Dec.{leb}
 use Rattle.zone.specs.declared.zones.Zone.{Zone}
 use Rattle.zone.specs.Zones.{newZone, emptyZone, withStatus, withFigures}
 use Rattle.card.specs.declared.answers.Refusal.the-variants.{NotSound, NoZone}
@@ -18,6 +19,10 @@ use Rattle.card.specs.Answers.{Result, refusalNumber, numberOf, valuesOf
 use Rattle.card.specs.Refusals.{_gives_, settled}
 use Rattle.card.specs.Records.{zoneAt, withZone, sound, noZone}
 use Rattle.card.specs.Calls.{Judgement, atZone, commandAt}
+
+-- the temperature range of zone n; 0 above 15
+abbrev pub rangeAt : Record → ℕ → ℕ
+rangeAt r n = cond (leb 16 n) 0 (zoneAt r n .range)
 
 -- the zone that a call is to work on, or the refusal that the call ends with
 unfoldable pub reachOf : Record → ℕ → Reached

@@ -15,7 +15,7 @@ ghost use Rattle.zone.specs.Zones.{zoneSound, holds};
 ghost use Rattle.card.specs.Answers.{outcomeSeen};
 ghost use Rattle.card.specs.Records.{emptyRecord, zoneAt, differ, sound, findOf};
 ghost use Rattle.card.specs.Calls.{addOf, removeOf, reportOf, applyOf};
-ghost use Rattle.card.specs.Inner.{reachOf, verdictSeen, stored, askOf};
+ghost use Rattle.card.specs.Inner.{rangeAt, reachOf, verdictSeen, stored, askOf};
 
 pub struct Record {
     pub zones: [Zone; 16],
@@ -113,6 +113,17 @@ impl Record {
             Found::At(_) => true,
             Found::Nowhere => false,
         }
+    }
+
+    // The temperature range of a zone; 0 where there is none.
+    pub fn range_at(self, zone: usize) -> u32
+        ensures { λ r. ⌜ r ≡ rangeAt self zone ⌝ }
+    {
+        if 16 <= zone {
+            return 0;
+        }
+        let z = self.zones[zone];
+        z.range
     }
 
     // The zone that a call is to work on.

@@ -88,7 +88,9 @@ fn text(line: &[u8]) -> Entry
         return Entry::Unreadable;
     }
     let start = i + 1;
-    Entry::Text(zone as usize, line::read(&line[start..]))
+    let reading = line::read(&line[start..]);
+    let parsed = reading.parsed;
+    Entry::Text(zone as usize, parsed)
 }
 
 // The frame's bytes are first put into the room.

@@ -1,4 +1,4 @@
--- Laws of a field, as its loops cite them: a part of the line up to a space, and digits one at a time. Assumes nothing.
+-- Laws of a field, as its loops cite them: a part of the line up to a space, and how great its digits can get. Assumes nothing.
 use mathlib.Core.Path.{_≡_, sym, ap, _∙_}
 use mathlib.Core.List.{List, [], _∷_, _++_, append-assoc, append-nil}
 use Prim.Native.Nat.{ℕ, suc, _+_, _-_, _*_, _^_, _≤_, _<_}
@@ -8,9 +8,8 @@ use native.Mathlib.Numerals.{add-one}
 use lib.ListN.{length, take, drop, getD, length-drop, drop-of-length-le}
 use lib.Dec.{lit<}
 use lib.Seq.{drop-cons, take-suc, getD-drop}
-use borrow.Author.Tests.{eq-eqb, ne-eqb, lt-ltb, le-ltb}
-use Rattle.wire.specs.declared.Figure.the-variants.{Value, Bad}
-use Rattle.line.specs.Field.{upToSpace, digitsBehind}
+use borrow.Author.Tests.{eq-eqb, ne-eqb}
+use Rattle.line.specs.Field.{upToSpace}
 
 pub word-stop : (l : List ℕ) (e : ℕ) → e < length l → getD l e 0 ≡ 32 → upToSpace (drop e l) ≡ []
 unfolding upToSpace
@@ -46,24 +45,6 @@ part-none l s = rw (sub-self s)
 pub part-whole : (l : List ℕ) (s e : ℕ) → upToSpace (drop s l) ≡ take (e - s) (drop s l) ++ upToSpace (drop e l) → upToSpace (drop e l) ≡ []
     → take (e - s) (drop s l) ≡ upToSpace (drop s l)
 part-whole l s e i z = sym (i ∙ ap (λ (r : List ℕ). take (e - s) (drop s l) ++ r) z ∙ append-nil (take (e - s) (drop s l)))
-
--- `digitsBehind`, a byte at a time
-pub number-end : (v : ℕ) (l : List ℕ) (i : ℕ) → length l ≤ i → digitsBehind v (drop i l) ≡ Value v
-unfolding digitsBehind
-number-end v l i h = rw (drop-of-length-le l h)
-
-pub number-low : (v : ℕ) (l : List ℕ) (i : ℕ) → i < length l → getD l i 0 < 48 → digitsBehind v (drop i l) ≡ Bad
-unfolding digitsBehind
-number-low v l i h k = rw (drop-cons l i 0) (simp (lt-ltb _ _ k))
-
-pub number-high : (v : ℕ) (l : List ℕ) (i : ℕ) → i < length l → 48 ≤ getD l i 0 → 57 < getD l i 0 → digitsBehind v (drop i l) ≡ Bad
-unfolding digitsBehind
-number-high v l i h k m = rw (drop-cons l i 0) (simp (le-ltb _ _ k, lt-ltb _ _ m))
-
-pub number-more : (v : ℕ) (l : List ℕ) (i : ℕ) → i < length l → 48 ≤ getD l i 0 → getD l i 0 ≤ 57
-    → digitsBehind v (drop i l) ≡ digitsBehind (v * 10 + (getD l i 0 - 48)) (drop (i + 1) l)
-unfolding digitsBehind
-number-more v l i h k m = rw (add-one, drop-cons l i 0) (simp (le-ltb _ _ k, le-ltb _ _ m))
 
 -- one digit more, and the number stays below the power of ten
 pub ten-more : (v i x : ℕ) → v < 10 ^ i → x ≤ 57 → v * 10 + (x - 48) < 10 ^ (i + 1)

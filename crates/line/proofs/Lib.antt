@@ -1,5 +1,9 @@
 pub mod FieldLaws
 pub mod DigitRule
+pub mod DigitLaws
 pub mod Same
 pub mod Round
 pub mod Three
+pub mod OutLaws
+pub mod PlaceLaws
+pub mod Placed

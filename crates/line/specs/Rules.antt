@@ -1,16 +1,21 @@
 -- Rules of the text road that are proved of its definitions. Above each stands where.
-use Prim.Native.Nat.{ℕ, _<_, _^_}
+use Prim.Native.Nat.{ℕ, _≤_, _<_, _^_}
 use mathlib.Core.Path.{_≡_}
 use mathlib.Core.Logic.{_↔_}
-use mathlib.Core.Bool.{true}
+use mathlib.Core.Bool.{true, false}
 use mathlib.Core.List.{List, [], _∷_, map}
+use lib.ListN.{length}
+use Rattle.zone.specs.declared.figures.Figures.{Figures}
 use Rattle.zone.specs.declared.figures.Command.{Command}
 use Rattle.zone.specs.Table.{everyForm}
+use Rattle.zone.specs.declared.figures.Command.the-variants.{Write}
+use Rattle.zone.specs.Figures.{entriesOf, inRange}
 use Rattle.wire.specs.declared.Figure.the-variants.{Value}
-use Rattle.wire.specs.declared.Parsed.the-variants.{Known}
+use Rattle.wire.specs.declared.Parsed.the-variants.{Known, Syntax}
 use Rattle.wire.specs.Road.{carriesCommand, lengthOf}
 use Rattle.line.specs.Field.{digitsOf}
 use Rattle.line.specs.Line.{digitsFor, textRoad, lineOf, lineRead}
+use Rattle.line.specs.Places.{offset, wrongIn, outFrom}
 
 -- "The rule for a digit field is proved once over its width": a field is read as n exactly where it is the `width` digits of n. `digit-field`, in proofs/DigitRule.antt
 abbrev pub DigitField : Type 0
@@ -31,3 +36,21 @@ pub record ItsLine (line : List ℕ) (command : Command) : Type 0 where
 
 abbrev pub OnlyItsLine : Type 0
 OnlyItsLine = (line : List ℕ) (command : Command) → lineRead line ≡ Known command → ItsLine line command
+
+-- ---- places, document 02, Req 04
+
+-- a line is a syntax error, as it was before there were places, exactly where it has the place of an 8. `syntax-has-place`, in proofs/Placed.antt
+abbrev pub SyntaxHasPlace : Type 0
+SyntaxHasPlace = (line : List ℕ) → (lineRead line ≡ Syntax) ↔ ((n : ℕ) × (wrongIn line ≡ offset n))
+
+-- which lies behind the five letters, and at the line's end at most. `syntax-place-within`, in proofs/Placed.antt
+abbrev pub SyntaxPlaceWithin : Type 0
+SyntaxPlaceWithin = (line : List ℕ) (n : ℕ) → wrongIn line ≡ offset n → (5 ≤ n) × (n ≤ length line)
+
+-- figures are out of range exactly where they have the place of a 9. `range-has-place`, in proofs/Placed.antt
+abbrev pub RangeHasPlace : Type 0
+RangeHasPlace = (range : ℕ) (figures : Figures) → (inRange range figures ≡ false) ↔ ((n : ℕ) × (outFrom range 5 (entriesOf figures) ≡ offset n))
+
+-- which is that of a byte of the line behind the five letters and a space. `range-place-within`, in proofs/Placed.antt
+abbrev pub RangePlaceWithin : Type 0
+RangePlaceWithin = (line : List ℕ) (range : ℕ) (figures : Figures) (n : ℕ) → lineRead line ≡ Known (Write figures) → outFrom range 5 (entriesOf figures) ≡ offset n → (5 < n) × (n < length line)

@@ -6,7 +6,10 @@ mod fields;
 mod reading;
 mod writing;
 
+pub use fields::Judged;
 pub use fields::digits;
+pub use reading::Reading;
+pub use reading::out_at;
 pub use reading::read;
 pub use writing::carries;
 pub use writing::put_figures;

@@ -1,11 +1,13 @@
 -- How the functions of a call come to what the definition says. Assumes nothing.
-use Prim.Native.Nat.{ℕ, _≤_}
+use Prim.Native.Nat.{ℕ, _≤_, _<_}
 use mathlib.Core.Path.{_≡_, refl, ap, _∙_}
-use mathlib.Core.Bool.{Bool, true, false, cond, not}
+use mathlib.Core.Bool.{Bool, true, false, cond, not, _||_}
 use mathlib.Core.List.{List, [], _∷_}
 use native.Mathlib.Omega.{arith}
 use lib.ListN.{length}
-use borrow.Author.Tests.{le-ltb}
+use lib.Dec.{leb, eqb}
+use borrow.Author.Tests.{le-ltb, lt-leb, leb-false, eqb-true}
+use Rattle.card.specs.declared.answers.Refusal.{Refusal}
 use Rattle.card.specs.declared.answers.Refusal.the-variants as refusal
 use Rattle.card.specs.declared.answers.Answer.{Answer}
 use Rattle.card.specs.declared.judgements.Asked.{Asked}
@@ -14,20 +16,22 @@ use Rattle.card.specs.declared.records.Record.{Record}
 use Rattle.card.specs.declared.records.Found.the-variants.{At, Nowhere}
 use Rattle.card.specs.declared.records.Outcome.{Outcome}
 use Rattle.card.specs.Answers.{Result, numberOf, valuesOf, outcomeSeen}
-use Rattle.card.specs.Refusals.{_gives_, settled}
+use Rattle.card.specs.Refusals.{_gives_, first, settled}
 use Rattle.card.specs.Records.{zoneAt, withZone, sound, findOf, noZone}
-use Rattle.card.specs.Inner.{askOf}
+use Rattle.card.specs.Inner.{rangeAt, askOf}
 use Rattle.card.proofs.Found.{found-there}
 use Rattle.wire.specs.declared.Parsed.{Parsed}
 use Rattle.wire.specs.declared.Parsed.the-variants.{Known, Unknown, Syntax}
 use Rattle.wire.specs.Room.{Filled}
 use Rattle.wire.proofs.Choices.{by-cond}
 use Rattle.line.specs.Line.{lineRead}
+use Rattle.line.specs.Places.{told, wrongIn, outIn}
 use Rattle.frame.specs.declared.reading.Framed.the-variants.{NoFrame, BadSum, Request}
 use Rattle.frame.specs.Frame.{shaped, bodyIn, addressIn, checksumRight, bodyRead, frameRead}
+use Rattle.roads.specs.declared.calls.Replied.{Replied}
 use Rattle.roads.specs.Acknowledgements.{textReply, frameReply}
-use Rattle.roads.specs.Calls.{repliedSeen, said, parsedRows, textResult, inTextReply, answerText, zoneFound, holder, resultAt, frameResult, inFrameReply, answerFrame}
-use Rattle.roads.specs.Inner.{askedBy, silentOf, frameAt}
+use Rattle.roads.specs.Calls.{repliedSeen, said, tooSmall, parsedRows, textResult, inTextReply, answerText, placeBy, textPlace, zoneFound, holder, resultAt, frameResult, inFrameReply, answerFrame}
+use Rattle.roads.specs.Inner.{askedBy, placeFound, silentOf, frameAt}
 use Rattle.roads.proofs.Seen.{said-of}
 
 -- ---- what a line or a body brings to a zone is judged by the rows 7, 8, 9, 10
@@ -43,16 +47,49 @@ parsed-asked r n Syntax = refl
 pub asked-text : (r : Record) (n : ℕ) (line room : List ℕ) → 32 ≤ length room → askOf r n (askedBy (lineRead line)) ≡ textResult r n line room
 asked-text r n line room h = rw (le-ltb (length room) 32 h) (parsed-asked r n (lineRead line))
 
-pub text-answer : (r : Record) (n : ℕ) (line room room′ : List ℕ) (k : ℕ) (o : Outcome) → 32 ≤ length room
+pub text-answer : (r : Record) (n : ℕ) (line room room′ : List ℕ) (k place : ℕ) (o : Outcome) → 32 ≤ length room
     → outcomeSeen o ≡ askOf r n (askedBy (lineRead line))
     → Filled (textReply (numberOf (o .answer)) (valuesOf (o .answer))) room room′ k
-    → repliedSeen (record { answer = o .answer; length = k; after = o .after }) room′ ≡ answerText r n line room
+    → repliedSeen (record { answer = o .answer; length = k; place = place; after = o .after }) room′ ≡ answerText r n line room
 unfolding answerText
-text-answer r n line room room′ k o h e f =
+text-answer r n line room room′ k place o h e f =
     (λ i. record { said = said-of (numberOf (o .answer)) (valuesOf (o .answer)) (textReply (numberOf (o .answer)) (valuesOf (o .answer))) room room′ k f i; after = o .after })
     ∙ ap (λ (x : Result Record). inTextReply x room) (e ∙ asked-text r n line room h)
 
+-- 9 is given only where there is a zone of that number
+nine-below : (r : Record) (n : ℕ) (line room : List ℕ) → textResult r n line room .number ≡ 9 → n < 16
+nine-below r n line room e = by-zone (leb 16 n) refl
+  where
+    never : (t u v : Bool) → cond t 1 (cond u 2 (cond (true || v) 3 (first (parsedRows (zoneAt r n) (lineRead line))))) ≡ 9 → n < 16
+    never true u v z = absurd (omega (arith, z))
+    never false true v z = absurd (omega (arith, z))
+    never false false v z = absurd (omega (arith, z))
+
+    by-zone : (t : Bool) → leb 16 n ≡ t → n < 16
+    by-zone true q = never (tooSmall room) (not (sound r)) (not (zoneAt r n .present)) (rw q at e)
+    by-zone false q = leb-false 16 n q
+
+-- so the place is that of the reading, in the range that the record has for the zone
+pub text-placed : (r : Record) (n : ℕ) (line room : List ℕ) (number : ℕ) → number ≡ answerText r n line room .said .number
+    → placeFound number (record { parsed = lineRead line; place = told (wrongIn line) }) (rangeAt r n) ≡ textPlace r n line room
+unfolding textPlace answerText
+text-placed r n line room number e = rw e (by-number (eqb (textResult r n line room .number) 9) refl)
+  where
+    by-number : (t : Bool) → eqb (textResult r n line room .number) 9 ≡ t
+        → cond (eqb (textResult r n line room .number) 8) (told (wrongIn line)) (cond (eqb (textResult r n line room .number) 9) (told (outIn (rangeAt r n) (lineRead line))) 0)
+        ≡ placeBy (textResult r n line room .number) (zoneAt r n .range) line
+    by-number true q = rw (lt-leb 16 n (nine-below r n line room (eqb-true _ _ q)))
+    by-number false q = rw q
+
 -- ---- a frame
+
+-- no answer of this road carries a place
+pub silent-place : (r : Record) (why : Refusal) → silentOf r why .place ≡ 0
+silent-place r why = by-sound (sound r)
+  where
+    by-sound : (t : Bool) → cond {A = Replied} t (record { answer = Answer.Refused why; length = 0; place = 0; after = r }) (record { answer = Answer.Refused refusal.NotSound; length = 0; place = 0; after = r }) .place ≡ 0
+    by-sound true = refl
+    by-sound false = refl
 
 -- what the frame must be where it was read as something
 pub no-shape : (f : List ℕ) → frameRead f ≡ NoFrame → shaped f ≡ false
@@ -81,7 +118,7 @@ pub shapeless : (r : Record) (f room : List ℕ) → 32 ≤ length room → shap
 unfolding answerFrame frameReply
 shapeless r f room h s = rw (le-ltb (length room) 32 h, s) (by-sound (sound r))
   where
-    by-sound : (t : Bool) → repliedSeen (cond t (record { answer = Answer.Refused refusal.NoFrame; length = 0; after = r }) (record { answer = Answer.Refused refusal.NotSound; length = 0; after = r })) room
+    by-sound : (t : Bool) → repliedSeen (cond t (record { answer = Answer.Refused refusal.NoFrame; length = 0; place = 0; after = r }) (record { answer = Answer.Refused refusal.NotSound; length = 0; place = 0; after = r })) room
         ≡ inFrameReply (addressIn f) (resultAt r (zoneFound (holder r f)) ((not t gives 2) ∷ (true gives 4) ∷ []) (bodyRead (bodyIn f))) room
     by-sound true = refl
     by-sound false = refl
@@ -92,7 +129,7 @@ module _ (r : Record) (f room : List ℕ) (h : 32 ≤ length room) (s : shaped f
   unfolding answerFrame frameReply
   unheld e = rw (le-ltb (length room) 32 h, s, e) (by-sound (sound r))
     where
-      by-sound : (t : Bool) → repliedSeen (cond t (record { answer = Answer.Refused refusal.NobodyHolds; length = 0; after = r }) (record { answer = Answer.Refused refusal.NotSound; length = 0; after = r })) room
+      by-sound : (t : Bool) → repliedSeen (cond t (record { answer = Answer.Refused refusal.NobodyHolds; length = 0; place = 0; after = r }) (record { answer = Answer.Refused refusal.NotSound; length = 0; place = 0; after = r })) room
           ≡ inFrameReply (addressIn f) (resultAt r 16 ((not t gives 2) ∷ (true gives 5) ∷ []) (bodyRead (bodyIn f))) room
       by-sound true = refl
       by-sound false = refl
@@ -131,7 +168,7 @@ module _ (r : Record) (f room : List ℕ) (h : 32 ≤ length room) (s : shaped f
 pub frame-answer : (r : Record) (n a : ℕ) (what : Asked) (room room′ : List ℕ) (k : ℕ) (o : Outcome)
     → outcomeSeen o ≡ askOf r n what
     → Filled (frameReply a (numberOf (o .answer)) (valuesOf (o .answer))) room room′ k
-    → repliedSeen (record { answer = o .answer; length = k; after = o .after }) room′ ≡ inFrameReply a (askOf r n what) room
+    → repliedSeen (record { answer = o .answer; length = k; place = 0; after = o .after }) room′ ≡ inFrameReply a (askOf r n what) room
 frame-answer r n a what room room′ k o e f =
     (λ i. record { said = said-of (numberOf (o .answer)) (valuesOf (o .answer)) (frameReply a (numberOf (o .answer)) (valuesOf (o .answer))) room room′ k f i; after = o .after })
     ∙ ap (λ (x : Result Record). inFrameReply a x room) e

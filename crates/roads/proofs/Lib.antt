@@ -3,6 +3,7 @@ pub mod CallLaws
 pub mod Worked
 pub mod Exactly
 pub mod Replies
+pub mod PlaceGiven
 pub mod Unique
 pub mod ReadBack
 pub mod Applied

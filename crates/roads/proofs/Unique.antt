@@ -1,4 +1,4 @@
--- No second outcome satisfies what a call of the roads promises: number, values, reply length, the whole room and the record are one. The promise is the function's own `ensures`, as the check reads it from the source. Assumes nothing.
+-- No second outcome satisfies what a call of the roads promises: number, values, reply length, place, the whole room and the record are one. The promise is the function's own `ensures`, as the check reads it from the source. Assumes nothing.
 use Prim.Native.Nat.{ℕ}
 use mathlib.Core.Path.{_≡_, sym, ap, _∙_}
 use mathlib.Core.List.{List}
@@ -15,12 +15,12 @@ use Rattle.roads.proofs.calls.frame.Reads as frame
 use Rattle.roads.proofs.composing.compose_line.Reads as compose-line
 use Rattle.roads.proofs.composing.compose_frame.Reads as compose-frame
 
-one-reply : (o o′ : Replied) (l l′ : List ℕ) → repliedSeen o l ≡ repliedSeen o′ l′ → (o ≡ o′) × (l ≡ l′)
-one-reply o o′ l l′ e =
+one-reply : (o o′ : Replied) (l l′ : List ℕ) → repliedSeen o l ≡ repliedSeen o′ l′ → o .place ≡ o′ .place → (o ≡ o′) × (l ≡ l′)
+one-reply o o′ l l′ e p =
     let a = one-answer (o .answer) (o′ .answer) (ap (λ (x : Answered). x .said .number) e) (ap (λ (x : Answered). x .said .values) e) in
     let n = ap (λ (x : Answered). x .said .length) e in
     let r = ap (λ (x : Answered). x .after) e in
-    ((λ i. record { answer = a i; length = n i; after = r i }), ap (λ (x : Answered). x .said .room) e)
+    ((λ i. record { answer = a i; length = n i; place = p i; after = r i }), ap (λ (x : Answered). x .said .room) e)
 
 one-composed : (o o′ : Composed) (l l′ : List ℕ) → composedSeen o l ≡ composedSeen o′ l′ → (o ≡ o′) × (l ≡ l′)
 one-composed o o′ l l′ e =
@@ -30,11 +30,11 @@ one-composed o o′ l l′ e =
 
 pub text-unique : (κs : Lfts 2) (r : Record) (n : ℕ) (line room x x′ : RefT (List ℕ)) (o o′ : Replied)
     → text.Post κs (r, (n, (line, (room, tt)))) o (r, (n, (line, (x, tt)))) → text.Post κs (r, (n, (line, (room, tt)))) o′ (r, (n, (line, (x′, tt)))) → (o ≡ o′) × (now x ≡ now x′)
-text-unique κs r n line room x x′ o o′ p q = one-reply o o′ (now x) (now x′) (p ∙ sym q)
+text-unique κs r n line room x x′ o o′ p q = one-reply o o′ (now x) (now x′) (p .0 ∙ sym (q .0)) (p .1 ∙ sym (q .1))
 
 pub frame-unique : (κs : Lfts 2) (r : Record) (bytes room x x′ : RefT (List ℕ)) (o o′ : Replied)
     → frame.Post κs (r, (bytes, (room, tt))) o (r, (bytes, (x, tt))) → frame.Post κs (r, (bytes, (room, tt))) o′ (r, (bytes, (x′, tt))) → (o ≡ o′) × (now x ≡ now x′)
-frame-unique κs r bytes room x x′ o o′ p q = one-reply o o′ (now x) (now x′) (p ∙ sym q)
+frame-unique κs r bytes room x x′ o o′ p q = one-reply o o′ (now x) (now x′) (p .0 ∙ sym (q .0)) (p .1 ∙ sym (q .1))
 
 pub compose-line-unique : (κs : Lfts 1) (c : Command) (room x x′ : RefT (List ℕ)) (o o′ : Composed)
     → compose-line.Post κs (c, (room, tt)) o (c, (x, tt)) → compose-line.Post κs (c, (room, tt)) o′ (c, (x′, tt)) → (o ≡ o′) × (now x ≡ now x′)

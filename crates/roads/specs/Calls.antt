@@ -3,7 +3,7 @@ use Prim.Native.Nat.{ℕ}
 use mathlib.Core.Bool.{Bool, true, false, cond, not, _&&_}
 use mathlib.Core.List.{List, [], _∷_}
 use lib.ListN.{length, take}
-use lib.Dec.{ltb}
+use lib.Dec.{ltb, eqb}
 use Rattle.zone.specs.declared.figures.Figures.{Figures}
 use Rattle.zone.specs.declared.figures.Command.{Command}
 use Rattle.zone.specs.declared.zones.Zone.{Zone}
@@ -21,6 +21,7 @@ use Rattle.wire.specs.declared.Parsed.the-variants.{Known, Unknown, Syntax}
 use Rattle.wire.specs.Road.{carriesCommand}
 use Rattle.wire.specs.Room.{filled}
 use Rattle.line.specs.Line.{textRoad, lineOf, lineRead}
+use Rattle.line.specs.Places.{told, wrongIn, outIn}
 use Rattle.frame.specs.Frame.{frameRoad, frameOf, shaped, bodyIn, addressIn, checksumRight, bodyRead}
 use Rattle.roads.specs.declared.calls.Replied.{Replied}
 use Rattle.roads.specs.declared.composing.Composed.{Composed}
@@ -99,7 +100,14 @@ inTextReply o room = record { said = said (o .number) (o .values) (textReply (o 
 unfoldable pub answerText : Record → ℕ → List ℕ → List ℕ → Answered
 answerText r n line room = inTextReply (textResult r n line room) room
 
--- ---- "Frame: 1, 2, 4, 5, 6, 7, 8, 9, 10"
+-- "Answers 8 and 9 on the text road carry that place, all others 0" (document 02, Req 04): that of the line, and that of its figures in a zone of that range
+abbrev pub placeBy : ℕ → ℕ → List ℕ → ℕ
+placeBy number range line = cond (eqb number 8) (told (wrongIn line)) (cond (eqb number 9) (told (outIn range (lineRead line))) 0)
+
+unfoldable pub textPlace : Record → ℕ → List ℕ → List ℕ → ℕ
+textPlace r n line room = placeBy (answerText r n line room .said .number) (zoneAt r n .range) line
+
+-- ---- "Frame: 1, 2, 4, 5, 6, 7, 8, 9, 10". No answer of this road carries a place
 
 abbrev pub frameOrder : List ℕ
 frameOrder = 1 ∷ 2 ∷ 4 ∷ 5 ∷ 6 ∷ 7 ∷ 8 ∷ 9 ∷ 10 ∷ []

@@ -2,6 +2,7 @@
 use Prim.Native.Nat.{ℕ}
 use mathlib.Core.Bool.{cond}
 use mathlib.Core.List.{List}
+use lib.Dec.{eqb}
 use Rattle.card.specs.declared.answers.Refusal.{Refusal}
 use Rattle.card.specs.declared.answers.Refusal.the-variants as refusal
 use Rattle.card.specs.declared.answers.Answer.the-variants as answer
@@ -14,6 +15,8 @@ use Rattle.card.specs.Records.{sound, findOf}
 use Rattle.card.specs.Inner.{askOf}
 use Rattle.wire.specs.declared.Parsed.{Parsed}
 use Rattle.wire.specs.declared.Parsed.the-variants.{Known, Unknown, Syntax}
+use Rattle.line.specs.declared.reading.Reading.{Reading}
+use Rattle.line.specs.Places.{told, outIn}
 use Rattle.roads.specs.declared.calls.Replied.{Replied}
 use Rattle.roads.specs.Calls.{Answered, repliedSeen, inFrameReply}
 
@@ -22,11 +25,15 @@ askedBy (Known command) = asked.Sent command
 askedBy Unknown = asked.Failed refusal.Unknown
 askedBy Syntax = asked.Failed refusal.Syntax
 
+-- the place of a line that was read
+abbrev pub placeFound : ℕ → Reading → ℕ → ℕ
+placeFound number reading range = cond (eqb number 8) (reading .place) (cond (eqb number 9) (told (outIn range (reading .parsed))) 0)
+
 -- a refusal without a reply: 2 where the record is not sound, else the one given
 abbrev pub silentOf : Record → Refusal → Replied
 silentOf r why = cond (sound r)
-    (record { answer = answer.Refused why; length = 0; after = r })
-    (record { answer = answer.Refused refusal.NotSound; length = 0; after = r })
+    (record { answer = answer.Refused why; length = 0; place = 0; after = r })
+    (record { answer = answer.Refused refusal.NotSound; length = 0; place = 0; after = r })
 
 -- what a frame brings, by who was found to hold its address
 abbrev pub byHolder : Record → ℕ → Asked → List ℕ → Found → Answered

@@ -1,17 +1,22 @@
 -- Rules of the calls that are proved of their definitions, besides those that the demands state. Above each stands where.
-use Prim.Native.Nat.{ℕ, _≤_}
+use Prim.Native.Nat.{ℕ, _≤_, _<_}
 use mathlib.Core.Path.{_≡_}
 use mathlib.Core.Bool.{true}
 use mathlib.Core.List.{List}
 use lib.ListN.{length}
+use Rattle.zone.specs.declared.figures.Figures.{Figures}
 use Rattle.zone.specs.declared.figures.Command.{Command}
+use Rattle.zone.specs.declared.figures.Command.the-variants.{Write}
+use Rattle.zone.specs.Figures.{entriesOf}
 use Rattle.card.specs.declared.records.Record.{Record}
 use Rattle.card.specs.Records.{zoneAt, sound}
 use Rattle.card.specs.Calls.{applyOf}
+use Rattle.wire.specs.declared.Parsed.the-variants.{Known}
 use Rattle.wire.specs.Road.{carriesCommand}
-use Rattle.line.specs.Line.{textRoad, lineOf}
+use Rattle.line.specs.Line.{textRoad, lineOf, lineRead}
+use Rattle.line.specs.Places.{offset, wrongIn, outFrom}
 use Rattle.frame.specs.Frame.{frameRoad, frameOf}
-use Rattle.roads.specs.Calls.{textResult, frameResult}
+use Rattle.roads.specs.Calls.{textResult, answerText, textPlace, frameResult}
 
 -- A command that a road carries, sent by it with reply room of 32 bytes, comes to what applying the command comes to: number, figures and record. By frame, to the address of a present zone of a sound record.
 -- `text-applies` and `frame-applies`, in proofs/Applied.antt
@@ -21,3 +26,18 @@ LineApplies = (r : Record) (n : ℕ) (command : Command) (room : List ℕ) → 3
 abbrev pub FrameApplies : Type 0
 FrameApplies = (r : Record) (n : ℕ) (command : Command) (room : List ℕ) → sound r ≡ true → zoneAt r n .present ≡ true → 32 ≤ length room → carriesCommand frameRoad command ≡ true
     → frameResult r (frameOf (zoneAt r n .address) command) room ≡ applyOf r n command
+
+-- ---- the place that an answer to a line carries (document 02, Req 04)
+
+-- what a number and a place say of the line that they answer
+pub record PlaceWith (number place range : ℕ) (line : List ℕ) : Type 0 where
+  -- 8: something is wrong there, behind the five letters and at the line's end at most
+  pub eight : number ≡ 8 → (wrongIn line ≡ offset place) × (5 ≤ place) × (place ≤ length line)
+  -- 9: the line is a write, and the first of its figures that is out of range starts there, behind a space and within the line
+  pub nine : number ≡ 9 → (figures : Figures) × (lineRead line ≡ Known (Write figures)) × (outFrom range 5 (entriesOf figures) ≡ offset place) × (5 < place) × (place < length line)
+  -- "all others 0"
+  pub others : (number ≡ 8 → ⊥) → (number ≡ 9 → ⊥) → place ≡ 0
+
+-- `place-given`, in proofs/PlaceGiven.antt
+abbrev pub PlaceGiven : Type 0
+PlaceGiven = (r : Record) (n : ℕ) (line room : List ℕ) → PlaceWith (answerText r n line room .said .number) (textPlace r n line room) (zoneAt r n .range) line

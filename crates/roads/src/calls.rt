@@ -7,16 +7,20 @@ use card::Found;
 use card::Record;
 use card::Refusal;
 use frame::Framed;
+use line::Reading;
 use wire::Parsed;
 ghost use mathlib.Core.Path.{_≡_};
 ghost use Prim.Native.Nat.{_≤_};
 ghost use lib.ListN.{length};
-ghost use Rattle.roads.specs.Calls.{repliedSeen, answerText, answerFrame};
-ghost use Rattle.roads.specs.Inner.{askedBy, silentOf, frameAt};
+ghost use Rattle.card.specs.Answers.{numberOf};
+ghost use Rattle.roads.specs.Calls.{repliedSeen, answerText, textPlace, answerFrame};
+ghost use Rattle.roads.specs.Inner.{askedBy, placeFound, silentOf, frameAt};
 
+// What a call answers, how long its reply is, and where a line is wrong: 0 unless the answer is 8 or 9.
 pub struct Replied {
     pub answer: Answer,
     pub length: usize,
+    pub place: usize,
     pub after: Record,
 }
 
@@ -31,24 +35,43 @@ pub fn asked(parsed: Parsed) -> Asked
     }
 }
 
+// The place that the answer to a line carries, in a zone of that temperature range.
+fn place_of(answer: Answer, reading: Reading, range: u32) -> usize
+    ensures { λ o. ⌜ o ≡ placeFound (numberOf answer) reading range ⌝ }
+{
+    let number = answer.number();
+    if number == 8 {
+        return reading.place;
+    }
+    if number == 9 {
+        let parsed = reading.parsed;
+        return line::out_at(parsed, range);
+    }
+    0
+}
+
 // A line, without its terminator, to a zone.
 pub fn text(r: Record, zone: usize, line: &[u8], room: &mut [u8]) -> Replied
-    ensures { λ o. ⌜ repliedSeen o (now (room .exit)) ≡ answerText r zone (now (line .entry)) (now (room .entry)) ⌝ }
+    ensures { λ o. ⌜ (repliedSeen o (now (room .exit)) ≡ answerText r zone (now (line .entry)) (now (room .entry))) × (o .place ≡ textPlace r zone (now (line .entry)) (now (room .entry))) ⌝ }
 {
     if room.len() < 32 {
         return Replied {
             answer: Answer::Refused(Refusal::NoRoom),
             length: 0,
+            place: 0,
             after: r,
         };
     }
-    let outcome = r.ask(zone, asked(line::read(line)));
+    let reading = line::read(line);
+    let parsed = reading.parsed;
+    let outcome = r.ask(zone, asked(parsed));
     let answered = outcome.answer;
     let after = outcome.after;
     let length = put_text(answered, room);
     Replied {
         answer: answered,
         length: length,
+        place: place_of(answered, reading, r.range_at(zone)),
         after: after,
     }
 }
@@ -61,12 +84,14 @@ fn silent(r: Record, why: Refusal) -> Replied
         Replied {
             answer: Answer::Refused(why),
             length: 0,
+            place: 0,
             after: r,
         }
     } else {
         Replied {
             answer: Answer::Refused(Refusal::NotSound),
             length: 0,
+            place: 0,
             after: r,
         }
     }
@@ -75,7 +100,7 @@ fn silent(r: Record, why: Refusal) -> Replied
 // What a frame brings, to whoever holds its address.
 fn to_holder(r: Record, address: u8, asked: Asked, room: &mut [u8]) -> Replied
     requires { ⌜ 32 ≤ length (now room) ⌝ }
-    ensures { λ o. ⌜ repliedSeen o (now (room .exit)) ≡ frameAt r address asked (now (room .entry)) ⌝ }
+    ensures { λ o. ⌜ (repliedSeen o (now (room .exit)) ≡ frameAt r address asked (now (room .entry))) × (o .place ≡ 0) ⌝ }
 {
     match r.find(address as u32) {
         Found::Nowhere => silent(r, Refusal::NobodyHolds),
@@ -87,6 +112,7 @@ fn to_holder(r: Record, address: u8, asked: Asked, room: &mut [u8]) -> Replied
             Replied {
                 answer: answer,
                 length: length,
+                place: 0,
                 after: after,
             }
         }
@@ -95,12 +121,13 @@ fn to_holder(r: Record, address: u8, asked: Asked, room: &mut [u8]) -> Replied
 
 // A frame on the shared pair.
 pub fn frame(r: Record, frame: &[u8], room: &mut [u8]) -> Replied
-    ensures { λ o. ⌜ repliedSeen o (now (room .exit)) ≡ answerFrame r (now (frame .entry)) (now (room .entry)) ⌝ }
+    ensures { λ o. ⌜ (repliedSeen o (now (room .exit)) ≡ answerFrame r (now (frame .entry)) (now (room .entry))) × (o .place ≡ 0) ⌝ }
 {
     if room.len() < 32 {
         return Replied {
             answer: Answer::Refused(Refusal::NoRoom),
             length: 0,
+            place: 0,
             after: r,
         };
     }

@@ -1,4 +1,5 @@
 // Decimals, and the decimal that stands behind a tab.
+use line::Judged;
 use wire::Figure;
 ghost use mathlib.Core.Path.{_≡_};
 ghost use Rattle.texts.specs.Numbers.{decimalOf};
@@ -23,7 +24,10 @@ fn decimal(field: &[u8]) -> Figure
     if (field[0] == b'0') & (1 < field.len()) {
         return Figure::Bad;
     }
-    line::digits(field, field.len())
+    match line::digits(field, field.len()) {
+        Judged::Value(value) => Figure::Value(value),
+        Judged::Wrong(_) => Figure::Bad,
+    }
 }
 
 // The decimal behind the tab at `at`.

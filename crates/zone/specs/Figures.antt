@@ -49,9 +49,13 @@ entries (k ∷ ks) (n ∷ ns) = record { column = k; number = n } ∷ entries ks
 abbrev pub entriesOf : Figures → List Entry
 entriesOf figures = entries (layout (formOf figures) .columns) (numbers figures)
 
--- every figure lies in its range, in a zone of that temperature range. "In AHUE each figure is judged by its own range only": the others need no such rule
+-- the figure lies in its range, in a zone of that temperature range
+abbrev pub fits : ℕ → Entry → Bool
+fits range e = within (e .column .lowest) (e .column .highest range) (e .number)
+
+-- every figure does. "In AHUE each figure is judged by its own range only": the others need no such rule
 unfoldable pub inRange : ℕ → Figures → Bool
-inRange range figures = every (λ e. within (e .column .lowest) (e .column .highest range) (e .number)) (entriesOf figures)
+inRange range figures = every (fits range) (entriesOf figures)
 
 unfoldable pub allZero : Figures → Bool
 allZero figures = every isZero (numbers figures)

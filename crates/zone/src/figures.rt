@@ -1,6 +1,7 @@
 // The command groups, the figures of each, and the commands that carry them.
 ghost use mathlib.Core.Path.{_≡_};
 ghost use Rattle.zone.specs.Figures.{groupOf, inRange, allZero};
+ghost use Rattle.zone.specs.Inner.{fiveFit};
 ghost use Rattle.zone.specs.Zones.{lockable};
 
 pub enum Group {
@@ -80,39 +81,44 @@ impl Figures {
         }
     }
 
+    // Which figures lie in their own range, in order, in a zone of that temperature range; a row of
+    // fewer than five figures has no more to fail.
+    pub fn fits(self, range: u32) -> [bool; 5]
+        ensures { λ r. ⌜ r ≡ fiveFit range self ⌝ }
+    {
+        match self {
+            Figures::AhueDeadline(f) => [
+                f.flag <= 1,
+                (5 <= f.lower) & (f.lower <= 99),
+                (5 <= f.upper) & (f.upper <= 99),
+                f.time <= 999,
+                true,
+            ],
+            Figures::AhueWindow(f) => [
+                f.flag <= 1,
+                (5 <= f.lower) & (f.lower <= 99),
+                (5 <= f.upper) & (f.upper <= 99),
+                f.begin <= 998,
+                (1 <= f.end) & (f.end <= 999),
+            ],
+            Figures::HzbgLimit(f) => [f.time <= 999, true, true, true, true],
+            Figures::RrueReference(f) => [
+                f.flag <= 1,
+                (5 <= f.lower) & (f.lower <= 100),
+                (5 <= f.upper) & (f.upper <= 100),
+                true,
+                true,
+            ],
+            Figures::SolwSetpoint(f) => [f.setpoint <= range, true, true, true, true],
+        }
+    }
+
     // Each figure lies in its own range, in a zone of that temperature range.
     pub fn in_range(self, range: u32) -> bool
         ensures { λ r. ⌜ r ≡ inRange range self ⌝ }
     {
-        match self {
-            Figures::AhueDeadline(f) => {
-                (f.flag <= 1)
-                    & (5 <= f.lower)
-                    & (f.lower <= 99)
-                    & (5 <= f.upper)
-                    & (f.upper <= 99)
-                    & (f.time <= 999)
-            }
-            Figures::AhueWindow(f) => {
-                (f.flag <= 1)
-                    & (5 <= f.lower)
-                    & (f.lower <= 99)
-                    & (5 <= f.upper)
-                    & (f.upper <= 99)
-                    & (f.begin <= 998)
-                    & (1 <= f.end)
-                    & (f.end <= 999)
-            }
-            Figures::HzbgLimit(f) => f.time <= 999,
-            Figures::RrueReference(f) => {
-                (f.flag <= 1)
-                    & (5 <= f.lower)
-                    & (f.lower <= 100)
-                    & (5 <= f.upper)
-                    & (f.upper <= 100)
-            }
-            Figures::SolwSetpoint(f) => f.setpoint <= range,
-        }
+        let fits = self.fits(range);
+        fits[0] & fits[1] & fits[2] & fits[3] & fits[4]
     }
 
     pub fn all_zero(self) -> bool

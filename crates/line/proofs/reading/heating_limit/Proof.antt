@@ -1,18 +1,27 @@
--- Each figure is read in the row's order; the first that is none makes a syntax error, and all of them the write.
+-- The figures are read in the row's order; the first that is wrong makes a syntax error at its place, and behind the last the line ends.
 use mathlib.Core.Path.{sym, _∙_}
-use Rattle.wire.specs.Road.{formRead}
+use Rattle.line.specs.Inner.{formWalked}
+use Rattle.line.proofs.Three.{onward-end, read-end}
 use borrow.Author.Needs.{needs}
 use Rattle.line.proofs.reading.heating_limit.Statement.{statement}
 use Rattle.line.proofs.reading.heating_limit.Tie as tie
 
 returns : tie.Need-returns
-unfolding formRead
-returns c = rw (sym (c .before .before .figure .ensures) ∙ c .enum-told .given .1)
+unfolding formWalked
+returns c = rw (sym (c .before .before .before .before .figure .ensures) ∙ c .before .before .i .given .1) (c .misread .ensures)
 
 returns-2 : tie.Need-returns-2
-unfolding formRead
-returns-2 c = rw (sym (c .before .before .before .figure .ensures) ∙ c .before .time .given .1)
+unfolding formWalked
+returns-2 c = rw (sym (c .before .before .before .before .figure .ensures) ∙ c .before .before .time .given .1, onward-end, read-end) (c .whole .ensures)
 
 pub heating-limit-spec : {M : Type 1} → statement M
 heating-limit-spec =
-    tie.close (tie.spec (λ c κs. search needs) (λ c. search needs) (λ c. search needs) returns returns-2)
+    tie.close
+    (tie.spec
+    (λ c κs. search needs)
+    (λ c. search needs)
+    (λ c κs. search needs)
+    (λ c. search needs)
+    (λ c κs. search needs)
+    returns
+    returns-2)

@@ -1,18 +1,27 @@
--- The figures are read in the row's order; the first that is none makes a syntax error, and all of them the write.
+-- The figures are read in the row's order; the first that is wrong makes a syntax error at its place, and behind the last the line ends.
 use mathlib.Core.Path.{sym, _∙_}
-use Rattle.wire.specs.Road.{formRead}
-use Rattle.line.proofs.Three.{watched-none, watched-all}
+use Rattle.line.specs.Inner.{formWalked}
+use Rattle.line.proofs.Three.{watched-wrong, watched-all, onward-end, read-end}
 use borrow.Author.Needs.{needs}
 use Rattle.line.proofs.reading.reference.Statement.{statement}
 use Rattle.line.proofs.reading.reference.Tie as tie
 
 returns : tie.Need-returns
-unfolding formRead
-returns c = rw (watched-none _ (sym (c .before .before .watched .ensures) ∙ c .enum-told .given .1))
+unfolding formWalked
+returns c = rw (watched-wrong _ (sym (c .before .before .before .before .watched .ensures) ∙ c .before .before .i .given .1)) (c .misread .ensures)
 
 returns-2 : tie.Need-returns-2
-unfolding formRead
-returns-2 c = let p = c .before in rw (watched-all _ (sym (p .before .before .watched .ensures) ∙ p .flag .given .1))
+unfolding formWalked
+returns-2 c = rw (watched-all _ (sym (c .before .before .before .before .watched .ensures) ∙ c .before .before .flag .given .1), onward-end, onward-end, onward-end, read-end) (c .whole .ensures)
 
 pub reference-spec : {M : Type 1} → statement M
-reference-spec = tie.close (tie.spec (λ c κs. search needs) (λ c. search needs) (λ c. search needs) returns returns-2)
+reference-spec =
+    tie.close
+    (tie.spec
+    (λ c κs. search needs)
+    (λ c. search needs)
+    (λ c κs. search needs)
+    (λ c. search needs)
+    (λ c κs. search needs)
+    returns
+    returns-2)

@@ -1,0 +1,92 @@
+-- Where a line is wrong: document 02, Req 04, "Say where the line is wrong". An offset counts the line's bytes from 0.
+use Prim.Native.Nat.{ℕ, zero, suc, _+_}
+use mathlib.Core.Bool.{Bool, cond}
+use mathlib.Core.List.{List, [], _∷_, _++_}
+use lib.ListN.{length, getD, take, drop}
+use lib.Dec.{ltb, eqb}
+use Rattle.zone.specs.declared.figures.Group.{Group}
+use Rattle.zone.specs.declared.figures.Group.the-variants.{Ahue, Hzbg, Rrue, Solw}
+use Rattle.zone.specs.declared.figures.Command.the-variants.{Read, Write}
+use Rattle.zone.specs.Lists.{within}
+use Rattle.zone.specs.Table.{Column, digits, Form, deadline, window, hzbg, rrue, solw, layout}
+use Rattle.zone.specs.Figures.{Entry, entriesOf, fits}
+use Rattle.wire.specs.declared.Named.{Named}
+use Rattle.wire.specs.declared.Named.the-variants.{Is, NoGroup}
+use Rattle.wire.specs.declared.Parsed.{Parsed}
+use Rattle.wire.specs.declared.Parsed.the-variants.{Known, Unknown, Syntax}
+use Rattle.line.specs.Line.{L, S, textRoad, groupNamed}
+
+-- nothing is wrong, or it is at that offset
+pub data Place : Type 0 where
+  nowhere : Place
+  offset : ℕ → Place
+
+-- the place as a number; 0 where nothing is wrong
+abbrev pub told : Place → ℕ
+told nowhere = 0
+told (offset n) = n
+
+-- ---- the place of an 8
+
+-- "the expected digit or space"
+pub data Expected : Type 0 where
+  space digit : Expected
+
+-- a space is 32; the digits 0 to 9 are 48 to 57
+abbrev pub meets : Expected → ℕ → Bool
+meets space x = eqb x 32
+meets digit x = within 48 57 x
+
+-- what is expected from offset i on, held against the bytes that stand there
+unfoldable pub wrongFrom : ℕ → List Expected → List ℕ → Place
+-- "the line offset of the first byte that isn't the expected digit or space"
+wrongFrom i (e ∷ es) (x ∷ l) = cond (meets e x) (wrongFrom (i + 1) es l) (offset i)
+-- "or the line's length if it stops short"
+wrongFrom i (e ∷ es) [] = offset i
+-- "Surplus bytes are placed at the first of them"
+wrongFrom i [] (x ∷ l) = offset i
+wrongFrom i [] [] = nowhere
+
+abbrev pub digitsExpected : ℕ → List Expected
+digitsExpected zero = []
+digitsExpected (suc width) = digit ∷ digitsExpected width
+
+-- for each figure of a row a space and its digits
+abbrev pub figuresExpected : List Column → List Expected
+figuresExpected [] = []
+figuresExpected (k ∷ ks) = space ∷ (digitsExpected (digits (k .kind)) ++ figuresExpected ks)
+
+-- the form that a write of n bytes to a group is read as: "An AHUE write longer than 19 bytes is read as a window"
+abbrev pub formFor : Group → ℕ → Form
+formFor Ahue n = cond (ltb 19 n) window deadline
+formFor Hzbg n = hzbg
+formFor Rrue n = rrue
+formFor Solw n = solw
+
+-- behind its five letters a read expects nothing, and a write the figures of its form
+abbrev pub wrongAs : ℕ → Group → List ℕ → Place
+wrongAs letter group l =
+    cond (eqb letter L) (wrongFrom 5 [] (drop 5 l))
+    (cond (eqb letter S) (wrongFrom 5 (figuresExpected (layout (formFor group (length l)) .columns)) (drop 5 l)) nowhere)
+
+abbrev pub namedWrong : Named → List ℕ → Place
+namedWrong NoGroup l = nowhere
+namedWrong (Is group) l = wrongAs (getD l 0 0) group l
+
+-- where the line of a known command is wrong; a line of none has no such place
+unfoldable pub wrongIn : List ℕ → Place
+wrongIn l = cond (ltb (length l) 5) nowhere (namedWrong (groupNamed (take 4 (drop 1 l))) l)
+
+-- ---- the place of a 9
+
+-- "for 9 it is where the first figure out of range starts": behind its space, which stands at offset i
+unfoldable pub outFrom : ℕ → ℕ → List Entry → Place
+outFrom range i [] = nowhere
+outFrom range i (e ∷ es) = cond (fits range e) (outFrom range (i + textRoad .width (e .column .kind)) es) (offset (i + 1))
+
+-- the figures of a write stand behind its five letters
+abbrev pub outIn : ℕ → Parsed → Place
+outIn range (Known (Write figures)) = outFrom range 5 (entriesOf figures)
+outIn range (Known (Read group)) = nowhere
+outIn range Unknown = nowhere
+outIn range Syntax = nowhere
