@@ -22,9 +22,9 @@ use Rattle.roads.proofs.CallLaws.{bad-sum, right-sum}
 use Rattle.roads.proofs.Lengths.{text-fits}
 use Rattle.journal.specs.declared.asking.Entry.{Entry}
 use Rattle.texts.specs.Numbers.{decimalOf, digitRead, byteRead, bytesRead}
-use Rattle.texts.specs.Texts.{tab, field, onward}
+use Rattle.texts.specs.Texts.{tab, field, onward, orDash}
 use Rattle.journal.specs.Lines.{Asks, adds, removes, reports, says, frames, unreadable, N, X, M, T, F, decimals, addAsks, removeAsks, reportAsks, textTo, textAsks, bytesAsk, frameAsks, tooLong, shortAsks, asksOf}
-use Rattle.journal.specs.Journal.{orDash, outputLine}
+use Rattle.journal.specs.Journal.{outputLine}
 use Rattle.journal.specs.Inner.{entryOf, letterOf, frameReplied, replyOf, outputOf}
 use Rattle.journal.proofs.Outputs.{decimal-fits, framed-fits}
 

@@ -25,8 +25,8 @@ use Rattle.roads.proofs.Lengths.{either, text-fits, frame-fits}
 use Rattle.journal.specs.declared.asking.Entry.{Entry}
 use Rattle.journal.specs.declared.asking.Entry.the-variants.{Add, Remove, Report, Text, Frame, Unreadable}
 use Rattle.texts.specs.Numbers.{inHex}
-use Rattle.journal.specs.Journal.{numberDigits, orDash, outputLine}
-use Rattle.texts.specs.Texts.{tab, lineFeed}
+use Rattle.journal.specs.Journal.{numberDigits, outputLine}
+use Rattle.texts.specs.Texts.{tab, lineFeed, orDash}
 use Rattle.texts.proofs.Hex.{hex-length}
 use Rattle.journal.specs.Inner.{frameReplied, replyOf}
 

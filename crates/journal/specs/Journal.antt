@@ -9,7 +9,7 @@ use Rattle.line.specs.Line.{digitsFor}
 use Rattle.roads.specs.Calls.{Answered, replyIn}
 use Rattle.session.specs.Sessions.{text, frame, add, remove, report, Call, inRoom, quiet, answerTo}
 use Rattle.texts.specs.Numbers.{inHex}
-use Rattle.texts.specs.Texts.{lineFeed, tab}
+use Rattle.texts.specs.Texts.{lineFeed, tab, orDash}
 use Rattle.journal.specs.Lines.{Asks, adds, removes, reports, says, frames, unreadable, N, X, M, T, F, E, asksOf}
 
 -- "Room is always 32"; what the room held before is not shown
@@ -19,11 +19,6 @@ lent = replicate 32 0
 -- the digits of an answer number, all of which are below 100
 abbrev pub numberDigits : ℕ → List ℕ
 numberDigits n = cond (ltb n 10) (digitsFor 1 n) (digitsFor 2 n)
-
--- "the reply .. or "-""
-abbrev pub orDash : List ℕ → List ℕ
-orDash [] = 45 ∷ []
-orDash (x ∷ reply) = x ∷ reply
 
 -- "its letter, the number, and the reply .. parted by tabs", and a line feed, also where the last line of the log lacks it
 abbrev pub outputLine : ℕ → ℕ → List ℕ → List ℕ

@@ -13,8 +13,8 @@ ghost use Rattle.card.specs.Inner.{answerBy};
 ghost use Rattle.wire.specs.Room.{Filled};
 ghost use Rattle.roads.specs.Acknowledgements.{textReply, frameReply};
 ghost use Rattle.texts.specs.Numbers.{inHex};
-ghost use Rattle.journal.specs.Journal.{numberDigits, orDash};
-ghost use Rattle.texts.specs.Texts.{tab};
+ghost use Rattle.journal.specs.Journal.{numberDigits};
+ghost use Rattle.texts.specs.Texts.{tab, orDash};
 ghost use Rattle.journal.specs.Inner.{letterOf, replyOf, frameReplied, outputOf};
 
 fn letter(entry: Entry) -> u8

@@ -7,3 +7,4 @@ pub mod Three
 pub mod OutLaws
 pub mod PlaceLaws
 pub mod Placed
+pub mod Patterns

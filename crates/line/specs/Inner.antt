@@ -3,7 +3,7 @@ use Prim.Native.Nat.{ℕ, zero, suc, _+_, _-_, _*_}
 use mathlib.Core.Bool.{cond}
 use mathlib.Core.List.{List, [], _∷_}
 use lib.ListN.{length, getD}
-use lib.Dec.{ltb, eqb}
+use lib.Dec.{ltb, leb, eqb}
 use Rattle.zone.specs.declared.figures.Figures.{Figures}
 use Rattle.zone.specs.declared.figures.Command.the-variants.{Write}
 use Rattle.zone.specs.Table.{Column, digits, Form, layout}
@@ -17,7 +17,9 @@ use Rattle.line.specs.declared.reading.Limits.{Limits}
 use Rattle.line.specs.declared.reading.Limits.the-variants as limits
 use Rattle.line.specs.declared.reading.Reading.{Reading}
 use Rattle.line.specs.Field.{fieldOf, digitsOf}
-use Rattle.line.specs.Places.{Place, told, wrongFrom, digitsExpected}
+use Rattle.line.specs.declared.expecting.Expects.{Expects}
+use Rattle.line.specs.declared.expecting.Expects.the-variants.{Space, Digit, Nothing}
+use Rattle.line.specs.Places.{Place, told, Expected, space, digit, wrongFrom, digitsExpected}
 
 -- the figure, or the place where it is wrong
 abbrev pub judgedBy : Figure → Place → Judged
@@ -83,3 +85,13 @@ formWalked form l = readBy form (walk (layout form .columns) l 5)
 -- all figures of a row of n bytes are read: the line ends behind them, or has surplus bytes there
 abbrev pub wholeOf : List ℕ → ℕ → Figures → Reading
 wholeOf l n figures = cond (eqb (length l) n) (record { parsed = Known (Write figures); place = 0 }) (misread n)
+
+-- ---- what is expected, as a pattern of bytes: a blank for a space, 0 for a digit
+
+abbrev pub patternByte : Expected → ℕ
+patternByte space = 32
+patternByte digit = 48
+
+-- what a pattern has at an index
+unfoldable pub patternAt : List ℕ → ℕ → Expects
+patternAt pattern i = cond (leb (length pattern) i) Nothing (cond (eqb (getD pattern i 0) 32) Space Digit)

@@ -14,6 +14,8 @@ use Rattle.wire.specs.declared.Named.{Named}
 use Rattle.wire.specs.declared.Named.the-variants.{Is, NoGroup}
 use Rattle.wire.specs.declared.Parsed.{Parsed}
 use Rattle.wire.specs.declared.Parsed.the-variants.{Known, Unknown, Syntax}
+use Rattle.line.specs.declared.expecting.Expects.{Expects}
+use Rattle.line.specs.declared.expecting.Expects.the-variants.{Space, Digit, Nothing}
 use Rattle.line.specs.Line.{L, S, textRoad, groupNamed}
 
 -- nothing is wrong, or it is at that offset
@@ -63,11 +65,14 @@ formFor Hzbg n = hzbg
 formFor Rrue n = rrue
 formFor Solw n = solw
 
+abbrev pub writeExpected : Group → ℕ → List Expected
+writeExpected group n = figuresExpected (layout (formFor group n) .columns)
+
 -- behind its five letters a read expects nothing, and a write the figures of its form
 abbrev pub wrongAs : ℕ → Group → List ℕ → Place
 wrongAs letter group l =
     cond (eqb letter L) (wrongFrom 5 [] (drop 5 l))
-    (cond (eqb letter S) (wrongFrom 5 (figuresExpected (layout (formFor group (length l)) .columns)) (drop 5 l)) nowhere)
+    (cond (eqb letter S) (wrongFrom 5 (writeExpected group (length l)) (drop 5 l)) nowhere)
 
 abbrev pub namedWrong : Named → List ℕ → Place
 namedWrong NoGroup l = nowhere
@@ -90,3 +95,20 @@ outIn range (Known (Write figures)) = outFrom range 5 (entriesOf figures)
 outIn range (Known (Read group)) = nowhere
 outIn range Unknown = nowhere
 outIn range Syntax = nowhere
+
+-- ---- what is expected there, for people
+
+-- what a list of expectations has at an index; behind its end nothing more is expected
+abbrev pub expectedAt : List Expected → ℕ → Expects
+expectedAt [] i = Nothing
+expectedAt (space ∷ es) zero = Space
+expectedAt (digit ∷ es) zero = Digit
+expectedAt (e ∷ es) (suc i) = expectedAt es i
+
+abbrev pub namedExpects : Named → List ℕ → List Expected
+namedExpects NoGroup l = []
+namedExpects (Is group) l = cond (eqb (getD l 0 0) S) (writeExpected group (length l)) []
+
+-- what the line of a known command expects behind its five letters; any other line nothing
+unfoldable pub expectedIn : List ℕ → List Expected
+expectedIn l = cond (ltb (length l) 5) [] (namedExpects (groupNamed (take 4 (drop 1 l))) l)

@@ -2,10 +2,13 @@
 //
 // It knows commands and no record. specs/Line.antt says what the line of a command is; proofs/Round.antt
 // proves that it is read back as that command, and that nothing else is read as one.
+mod expecting;
 mod fields;
 mod reading;
 mod writing;
 
+pub use expecting::Expects;
+pub use expecting::expected;
 pub use fields::Judged;
 pub use fields::digits;
 pub use reading::Reading;

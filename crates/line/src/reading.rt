@@ -43,7 +43,7 @@ fn equal(x: &[u8], y: &[u8]) -> bool
     true
 }
 
-fn named(part: &[u8]) -> Named
+pub fn named(part: &[u8]) -> Named
     ensures { λ r. ⌜ r ≡ groupNamed (now (part .entry)) ⌝ }
 {
     if equal(part, b"AHUE") {

@@ -5,7 +5,8 @@ use mathlib.Core.Bool.{Bool, true, false, cond, not}
 use mathlib.Core.List.{List}
 use native.Mathlib.Omega.{arith}
 use lib.ListN.{length}
-use borrow.Author.Tests.{ne-eqb, not-true}
+use lib.Dec.{eqb}
+use borrow.Author.Tests.{ne-eqb, not-true, eqb-true, eqb-false}
 use Rattle.zone.specs.declared.figures.Figures.{Figures}
 use Rattle.zone.specs.declared.figures.Command.the-variants.{Read, Write}
 use Rattle.zone.specs.Figures.{groupOf, entriesOf, inRange}
@@ -88,3 +89,12 @@ place-given r n line room = record { eight = eight; nine = nine; others = others
 
     others : (number ≡ 8 → ⊥) → (number ≡ 9 → ⊥) → placeBy number range line ≡ 0
     others u v = rw (ne-eqb number 8 u, ne-eqb number 9 v)
+
+-- so no place is behind the line's end
+pub place-below : (r : Record) (n : ℕ) (line room : List ℕ) → textPlace r n line room ≤ length line
+place-below r n line room = by-number (eqb (answerText r n line room .said .number) 8) (eqb (answerText r n line room .said .number) 9) refl refl
+  where
+    by-number : (t u : Bool) → eqb (answerText r n line room .said .number) 8 ≡ t → eqb (answerText r n line room .said .number) 9 ≡ u → textPlace r n line room ≤ length line
+    by-number true u e h = place-given r n line room .eight (eqb-true _ _ e) .2
+    by-number false true e h = omega (arith, place-given r n line room .nine (eqb-true _ _ h) .4)
+    by-number false false e h = omega (arith, place-given r n line room .others (eqb-false _ _ e) (eqb-false _ _ h))

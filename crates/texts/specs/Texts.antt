@@ -1,4 +1,4 @@
--- The lines of a text, and the fields of a line: where a line feed ends the one and a tab the other.
+-- The lines of a text, and the fields of a line: where a line feed ends the one and a tab the other. And a reply as it stands in a line.
 use Prim.Native.Nat.{ℕ}
 use mathlib.Core.Bool.{cond}
 use mathlib.Core.List.{List, [], _∷_, _++_}
@@ -46,3 +46,10 @@ field l = take (indexOf tab l) l
 
 abbrev pub onward : List ℕ → List ℕ
 onward l = drop (indexOf tab l) l
+
+-- ---- a reply in a line
+
+-- "the reply .. or "-""
+abbrev pub orDash : List ℕ → List ℕ
+orDash [] = 45 ∷ []
+orDash (x ∷ reply) = x ∷ reply

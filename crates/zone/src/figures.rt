@@ -1,7 +1,8 @@
 // The command groups, the figures of each, and the commands that carry them.
 ghost use mathlib.Core.Path.{_≡_};
 ghost use Rattle.zone.specs.Figures.{groupOf, inRange, allZero};
-ghost use Rattle.zone.specs.Inner.{fiveFit};
+ghost use Rattle.zone.specs.Lists.{within};
+ghost use Rattle.zone.specs.Inner.{five, fiveFit};
 ghost use Rattle.zone.specs.Zones.{lockable};
 
 pub enum Group {
@@ -68,6 +69,31 @@ impl Group {
     }
 }
 
+// A figure with its range.
+pub struct Ranged {
+    pub number: u32,
+    pub lowest: u32,
+    pub highest: u32,
+}
+
+fn within(number: u32, lowest: u32, highest: u32) -> Ranged
+    ensures { λ r. ⌜ r ≡ record { number = number; lowest = lowest; highest = highest } ⌝ }
+{
+    Ranged {
+        number: number,
+        lowest: lowest,
+        highest: highest,
+    }
+}
+
+impl Ranged {
+    fn fits(self) -> bool
+        ensures { λ r. ⌜ r ≡ within (self .lowest) (self .highest) (self .number) ⌝ }
+    {
+        (self.lowest <= self.number) & (self.number <= self.highest)
+    }
+}
+
 impl Figures {
     pub fn group(self) -> Group
         ensures { λ r. ⌜ r ≡ groupOf self ⌝ }
@@ -81,36 +107,50 @@ impl Figures {
         }
     }
 
-    // Which figures lie in their own range, in order, in a zone of that temperature range; a row of
-    // fewer than five figures has no more to fail.
+    // The figures in order, each with its range in a zone of that temperature range. A row of fewer
+    // than five has zeros behind them, in a range of zero to zero.
+    pub fn row(self, range: u32) -> [Ranged; 5]
+        ensures { λ r. ⌜ r ≡ five range self ⌝ }
+    {
+        let none = within(0, 0, 0);
+        match self {
+            Figures::AhueDeadline(f) => [
+                within(f.flag, 0, 1),
+                within(f.lower, 5, 99),
+                within(f.upper, 5, 99),
+                within(f.time, 0, 999),
+                none,
+            ],
+            Figures::AhueWindow(f) => [
+                within(f.flag, 0, 1),
+                within(f.lower, 5, 99),
+                within(f.upper, 5, 99),
+                within(f.begin, 0, 998),
+                within(f.end, 1, 999),
+            ],
+            Figures::HzbgLimit(f) => [within(f.time, 0, 999), none, none, none, none],
+            Figures::RrueReference(f) => [
+                within(f.flag, 0, 1),
+                within(f.lower, 5, 100),
+                within(f.upper, 5, 100),
+                none,
+                none,
+            ],
+            Figures::SolwSetpoint(f) => [within(f.setpoint, 0, range), none, none, none, none],
+        }
+    }
+
+    // Which of the five lie in their range.
     pub fn fits(self, range: u32) -> [bool; 5]
         ensures { λ r. ⌜ r ≡ fiveFit range self ⌝ }
     {
-        match self {
-            Figures::AhueDeadline(f) => [
-                f.flag <= 1,
-                (5 <= f.lower) & (f.lower <= 99),
-                (5 <= f.upper) & (f.upper <= 99),
-                f.time <= 999,
-                true,
-            ],
-            Figures::AhueWindow(f) => [
-                f.flag <= 1,
-                (5 <= f.lower) & (f.lower <= 99),
-                (5 <= f.upper) & (f.upper <= 99),
-                f.begin <= 998,
-                (1 <= f.end) & (f.end <= 999),
-            ],
-            Figures::HzbgLimit(f) => [f.time <= 999, true, true, true, true],
-            Figures::RrueReference(f) => [
-                f.flag <= 1,
-                (5 <= f.lower) & (f.lower <= 100),
-                (5 <= f.upper) & (f.upper <= 100),
-                true,
-                true,
-            ],
-            Figures::SolwSetpoint(f) => [f.setpoint <= range, true, true, true, true],
-        }
+        let row = self.row(range);
+        let a = row[0];
+        let b = row[1];
+        let c = row[2];
+        let d = row[3];
+        let e = row[4];
+        [a.fits(), b.fits(), c.fits(), d.fits(), e.fits()]
     }
 
     // Each figure lies in its own range, in a zone of that temperature range.

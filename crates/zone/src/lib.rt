@@ -12,6 +12,7 @@ pub use figures::DeadlineFigures;
 pub use figures::Figures;
 pub use figures::Group;
 pub use figures::LimitFigures;
+pub use figures::Ranged;
 pub use figures::ReferenceFigures;
 pub use figures::SetpointFigures;
 pub use figures::WindowFigures;

@@ -1,0 +1,22 @@
+-- How a text grows at the front of a lent room, and other steps on the way.
+use Prim.Native.Nat.{ℕ, _+_}
+use mathlib.Core.Path.{_≡_}
+use mathlib.Core.List.{List, _++_}
+use lib.ListN.{length, take}
+use Rattle.zone.specs.declared.figures.Ranged.{Ranged}
+use Rattle.zone.specs.Lists.{ascii}
+use Rattle.saying.specs.declared.saying.Shown.{Shown}
+use Rattle.saying.specs.Saying.{Said, decimalFor}
+
+-- behind the first `at` bytes stands the text, and ends before index `end`
+pub record Appended (text out after : List ℕ) (at end : ℕ) : Type 0 where
+  pub contents : take end after ≡ take at out ++ text
+  pub count : end ≡ at + length text
+
+-- a range in words
+abbrev pub rangeIn : Ranged → List ℕ
+rangeIn g = decimalFor (g .lowest) ++ (ascii " to " ++ decimalFor (g .highest))
+
+-- what is seen of a line that was answered: the output at the front of the room
+abbrev pub shownSeen : Shown → List ℕ → Said
+shownSeen o out = record { output = take (o .filled) out; after = o .after }

@@ -1,0 +1,107 @@
+-- What `./card say` writes for a line that is sent to zone 0: its answer, and for a refusal what is wrong, in words.
+use Prim.Native.Nat.{ℕ, _-_}
+use Prim.Native.String.{String}
+use mathlib.Core.Bool.{cond, _||_}
+use mathlib.Core.List.{List, [], _∷_, _++_, map}
+use lib.ListN.{length, replicate}
+use lib.Dec.{ltb, eqb}
+use Rattle.zone.specs.declared.figures.Command.the-variants.{Read, Write}
+use Rattle.zone.specs.Lists.{within, isZero, ascii}
+use Rattle.zone.specs.Figures.{Entry, entriesOf, fits}
+use Rattle.card.specs.declared.records.Record.{Record}
+use Rattle.card.specs.Records.{zoneAt}
+use Rattle.wire.specs.declared.Parsed.{Parsed}
+use Rattle.wire.specs.declared.Parsed.the-variants.{Known, Unknown, Syntax}
+use Rattle.line.specs.declared.expecting.Expects.{Expects}
+use Rattle.line.specs.declared.expecting.Expects.the-variants.{Space, Digit, Nothing}
+use Rattle.line.specs.Line.{digitsFor, lineRead}
+use Rattle.line.specs.Places.{expectedAt, expectedIn}
+use Rattle.roads.specs.Calls.{Answered, replyIn, answerText, textPlace}
+use Rattle.texts.specs.Texts.{lineFeed, tab, orDash}
+
+-- a number below 1000, without leading zeros
+abbrev pub decimalFor : ℕ → List ℕ
+decimalFor n = cond (ltb n 10) (digitsFor 1 n) (cond (ltb n 100) (digitsFor 2 n) (digitsFor 3 n))
+
+-- "number, tab, reply (or -), tab, place"
+abbrev pub answerLine : ℕ → List ℕ → ℕ → List ℕ
+answerLine number reply place = decimalFor number ++ (tab ∷ (orDash reply ++ (tab ∷ (decimalFor place ++ (lineFeed ∷ [])))))
+
+-- "a line follows that begins with two blanks"
+abbrev pub behindBlanks : List ℕ → List ℕ
+behindBlanks words = 32 ∷ 32 ∷ (words ++ (lineFeed ∷ []))
+
+-- "says in words what the number means": the numbers of the text road, and 13
+abbrev pub meaning : ℕ → List ℕ
+meaning number =
+    cond (eqb number 1) (ascii "the room for the reply is below 32 bytes")
+    (cond (eqb number 2) (ascii "the record is not sound")
+    (cond (eqb number 3) (ascii "there is no such zone")
+    (cond (eqb number 7) (ascii "unknown command: L or S comes first, then AHUE, HZBG, RRUE or SOLW")
+    (cond (eqb number 8) (ascii "syntax error: wrong length, spaces or digits")
+    (cond (eqb number 9) (ascii "a figure is outside its range")
+    (cond (eqb number 10) (ascii "the write is not permitted in this state")
+    (ascii "unreadable: the line has more than 600 bytes")))))))
+
+-- "a byte that does not print as a dot"
+abbrev pub printed : ℕ → ℕ
+printed x = cond (within 32 126 x) x 46
+
+abbrev pub words : Expects → List ℕ
+words Space = ascii "a space"
+words Digit = ascii "a digit"
+words Nothing = ascii "nothing more"
+
+-- "5 to 99": the range of the first figure that is out of it
+unfoldable pub rangeMissed : ℕ → List Entry → List ℕ
+rangeMissed range [] = []
+rangeMissed range (e ∷ es) = cond (fits range e) (rangeMissed range es) (decimalFor (e .column .lowest) ++ (ascii " to " ++ decimalFor (e .column .highest range)))
+
+abbrev pub entriesIn : Parsed → List Entry
+entriesIn (Known (Write figures)) = entriesOf figures
+entriesIn (Known (Read group)) = []
+entriesIn Unknown = []
+entriesIn Syntax = []
+
+-- "what is expected there"; the figures stand behind the five letters
+abbrev pub expectation : ℕ → ℕ → List ℕ → ℕ → List ℕ
+expectation number range line place = cond (eqb number 8) (words (expectedAt (expectedIn line) (place - 5))) (rangeMissed range (entriesIn (lineRead line)))
+
+-- "the line sent .. and under it a caret at the place with what is expected there"
+abbrev pub caretAt : ℕ → List ℕ → List ℕ
+caretAt place expected = replicate place 32 ++ (94 ∷ 32 ∷ expected)
+
+abbrev pub pointed : List ℕ → ℕ → List ℕ → List ℕ
+pointed line place expected = behindBlanks (map printed line) ++ behindBlanks (caretAt place expected)
+
+-- behind the answer: nothing if the call is done; for every refusal the meaning of its number; for 8 and 9 the line and what was expected
+abbrev pub explained : ℕ → ℕ → List ℕ → ℕ → List ℕ
+explained number range line place =
+    cond (isZero number) []
+    (behindBlanks (meaning number) ++ cond (eqb number 8 || eqb number 9) (pointed line place (expectation number range line place)) [])
+
+pub record Said : Type 0 where
+  pub output : List ℕ
+  pub after : Record
+
+-- "A line .. has at most 600 bytes"
+abbrev pub longest : ℕ
+longest = 600
+
+-- the room that is lent
+abbrev pub lent : List ℕ
+lent = replicate 32 0
+
+abbrev pub saidBy : Record → List ℕ → Answered → ℕ → Said
+saidBy r line a place = record {
+  output = answerLine (a .said .number) (replyIn (a .said)) place ++ explained (a .said .number) (zoneAt r 0 .range) line place;
+  after = a .after;
+}
+
+-- "a longer one is answered as document 01's log answers one, 13, -, 0", and changes nothing
+abbrev pub tooLong : Record → Said
+tooLong r = record { output = answerLine 13 [] 0 ++ explained 13 0 [] 0; after = r }
+
+-- a line to zone 0
+unfoldable pub sayOf : Record → List ℕ → Said
+sayOf r line = cond (ltb longest (length line)) (tooLong r) (saidBy r line (answerText r 0 line lent) (textPlace r 0 line lent))
