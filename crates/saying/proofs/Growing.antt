@@ -17,9 +17,9 @@ put-behind src out after at h e =
     let n : length (take at out ++ src) ≡ at + length src = rw (length-append, length-take) (omega arith) in
     record {
       contents =
-      ap (take (at + length src)) e
-      ∙ ap (λ (k : ℕ). take k ((take at out ++ src) ++ drop (at + length src) out)) (sym n)
-      ∙ take-append-seam (take at out ++ src) (drop (at + length src) out);
+          ap (take (at + length src)) e
+          ∙ ap (λ (k : ℕ). take k ((take at out ++ src) ++ drop (at + length src) out)) (sym n)
+          ∙ take-append-seam (take at out ++ src) (drop (at + length src) out);
       count = refl;
     }
 

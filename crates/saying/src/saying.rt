@@ -84,7 +84,14 @@ fn behind_letters(place: usize) -> usize
 }
 
 // What is expected at the place.
-fn append_expectation(number: u32, range: u32, line: &[u8], place: usize, out: &mut [u8], at: usize) -> usize
+fn append_expectation(
+    number: u32,
+    range: u32,
+    line: &[u8],
+    place: usize,
+    out: &mut [u8],
+    at: usize,
+) -> usize
     requires { ⌜ at + 12 ≤ length (now out) ⌝ }
     ensures { λ r. ⌜ Appended (expectation number range (now (line .entry)) place) (now (out .entry)) (now (out .exit)) at r ⌝ }
     ensures { λ r. ⌜ r ≤ at + 12 ⌝ }
@@ -109,7 +116,14 @@ fn append_sent(line: &[u8], out: &mut [u8], at: usize) -> usize
 }
 
 // A caret at the place, with what is expected there.
-fn append_caret(number: u32, range: u32, line: &[u8], place: usize, out: &mut [u8], at: usize) -> usize
+fn append_caret(
+    number: u32,
+    range: u32,
+    line: &[u8],
+    place: usize,
+    out: &mut [u8],
+    at: usize,
+) -> usize
     requires { ⌜ (place ≤ 600) × (at + 617 ≤ length (now out)) ⌝ }
     ensures { λ r. ⌜ Appended (behindBlanks (caretAt place (expectation number range (now (line .entry)) place))) (now (out .entry)) (now (out .exit)) at r ⌝ }
     ensures { λ r. ⌜ r ≤ at + 617 ⌝ }
@@ -122,7 +136,14 @@ fn append_caret(number: u32, range: u32, line: &[u8], place: usize, out: &mut [u
 }
 
 // The line, and under it the caret.
-fn append_pointed(number: u32, range: u32, line: &[u8], place: usize, out: &mut [u8], at: usize) -> usize
+fn append_pointed(
+    number: u32,
+    range: u32,
+    line: &[u8],
+    place: usize,
+    out: &mut [u8],
+    at: usize,
+) -> usize
     requires { ⌜ (length (now line) ≤ 600) × (place ≤ 600) × (at + 1220 ≤ length (now out)) ⌝ }
     ensures { λ r. ⌜ Appended (pointed (now (line .entry)) place (expectation number range (now (line .entry)) place)) (now (out .entry)) (now (out .exit)) at r ⌝ }
     ensures { λ r. ⌜ r ≤ at + 1220 ⌝ }
@@ -143,7 +164,14 @@ fn append_meant(number: u32, out: &mut [u8], at: usize) -> usize
 }
 
 // What stands behind the answer.
-fn append_explained(number: u32, range: u32, line: &[u8], place: usize, out: &mut [u8], at: usize) -> usize
+fn append_explained(
+    number: u32,
+    range: u32,
+    line: &[u8],
+    place: usize,
+    out: &mut [u8],
+    at: usize,
+) -> usize
     requires { ⌜ (length (now line) ≤ 600) × (place ≤ 600) × (at + 1303 ≤ length (now out)) ⌝ }
     ensures { λ r. ⌜ Appended (explained number range (now (line .entry)) place) (now (out .entry)) (now (out .exit)) at r ⌝ }
     ensures { λ r. ⌜ r ≤ at + 1303 ⌝ }

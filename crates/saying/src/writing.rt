@@ -78,7 +78,11 @@ pub fn append_meaning(number: u32, out: &mut [u8], at: usize) -> usize
         return append(b"there is no such zone", out, at);
     }
     if number == 7 {
-        return append(b"unknown command: L or S comes first, then AHUE, HZBG, RRUE or SOLW", out, at);
+        return append(
+            b"unknown command: L or S comes first, then AHUE, HZBG, RRUE or SOLW",
+            out,
+            at,
+        );
     }
     if number == 8 {
         return append(b"syntax error: wrong length, spaces or digits", out, at);

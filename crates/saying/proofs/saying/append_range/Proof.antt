@@ -9,9 +9,9 @@ returns : tie.Need-returns
 returns c =
     let g = c .before .before in
     let b = g .before .before .before .before in
-    let a = b .before .before .before .before .before in
-    ( behind (a .append-decimal .ensures .0) (behind (b .append .ensures) (g .append-decimal2 .ensures .0))
-    , omega (arith, a .append-decimal .ensures .1, b .append .ensures .count, g .append-decimal2 .ensures .1)
+    let a = b .before .before .before .before .before in (
+      behind (a .append-decimal .ensures .0) (behind (b .append .ensures) (g .append-decimal2 .ensures .0)),
+      omega (arith, a .append-decimal .ensures .1, b .append .ensures .count, g .append-decimal2 .ensures .1),
     )
 
 pub append-range-spec : {M : Type 1} → statement M

@@ -9,9 +9,9 @@ returns : tie.Need-returns
 returns c =
     let k = c .before .before in
     let b = k .before .before .before .before .before in
-    let a = b .before .before .before .before in
-    ( behind (a .append .ensures) (behind (b .append-printed .ensures .0) (k .append2 .ensures))
-    , omega (arith, a .append .ensures .count, b .append-printed .ensures .1, k .append2 .ensures .count, a .before .before .before .before .before .pre .0)
+    let a = b .before .before .before .before in (
+      behind (a .append .ensures) (behind (b .append-printed .ensures .0) (k .append2 .ensures)),
+      omega (arith, a .append .ensures .count, b .append-printed .ensures .1, k .append2 .ensures .count, a .before .before .before .before .before .pre .0),
     )
 
 pub append-sent-spec : {M : Type 1} → statement M

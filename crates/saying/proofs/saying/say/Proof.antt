@@ -45,10 +45,10 @@ returns-2 c =
     let d = b .before .before .before .before .before in
     let q = d .before .before .before .before .before .before .before in
     let a = q .before .before .before .before .before .args in
-    let text = behind (d .append-answer .ensures .0) (b .append-explained .ensures .0) in
-    ( (λ i. record { output = text .contents i; after = q .text .result .after })
-    ∙ written (a .r) (now (a .line)) _ (q .text .result) (q .text .ensures .0) (q .text .ensures .1) (q .before .before .if1 .left) _ _ (d .before .before .before .before .number .ensures) (b .before .before .range-at .ensures)
-    , omega (arith, d .append-answer .ensures .1, b .append-explained .ensures .1)
+    let text = behind (d .append-answer .ensures .0) (b .append-explained .ensures .0) in (
+      (λ i. record { output = text .contents i; after = q .text .result .after })
+          ∙ written (a .r) (now (a .line)) _ (q .text .result) (q .text .ensures .0) (q .text .ensures .1) (q .before .before .if1 .left) _ _ (d .before .before .before .before .number .ensures) (b .before .before .range-at .ensures),
+      omega (arith, d .append-answer .ensures .1, b .append-explained .ensures .1),
     )
 
 pub say-spec : {M : Type 1} → statement M

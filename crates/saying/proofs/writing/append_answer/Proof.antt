@@ -32,9 +32,9 @@ returns c =
     let d = fourth e in
     let g = third d in
     let b = second g in
-    let a = first b in
-    ( behind (a .append-decimal .ensures .0) (behind (b .append .ensures) (behind (g .append-reply .ensures .0) (behind (d .append2 .ensures) (behind (e .append-decimal2 .ensures .0) (f .append3 .ensures)))))
-    , omega (arith, a .append-decimal .ensures .1, b .append .ensures .count, g .append-reply .ensures .1, d .append2 .ensures .count, e .append-decimal2 .ensures .1, f .append3 .ensures .count)
+    let a = first b in (
+      behind (a .append-decimal .ensures .0) (behind (b .append .ensures) (behind (g .append-reply .ensures .0) (behind (d .append2 .ensures) (behind (e .append-decimal2 .ensures .0) (f .append3 .ensures))))),
+      omega (arith, a .append-decimal .ensures .1, b .append .ensures .count, g .append-reply .ensures .1, d .append2 .ensures .count, e .append-decimal2 .ensures .1, f .append3 .ensures .count),
     )
 
 pub append-answer-spec : {M : Type 1} → statement M

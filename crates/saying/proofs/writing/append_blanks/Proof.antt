@@ -22,10 +22,10 @@ loop-holds c = (omega arith, refl, nothing-yet (now (c .args .out)) (c .args .at
 loop-again : tie.Need-loop-again Inv-loop μ-loop
 loop-again c =
     let p = c .before in
-    let a = p .before .args in
-    ( omega arith
-    , rw length-set (p .loop .inv .1)
-    , blanks-grow 32 (now (a .out)) (p .loop .out) (a .at) (p .loop .i) (omega (arith, p .loop .inv .1, p .before .pre)) (p .loop .inv .2)
+    let a = p .before .args in (
+      omega arith,
+      rw length-set (p .loop .inv .1),
+      blanks-grow 32 (now (a .out)) (p .loop .out) (a .at) (p .loop .i) (omega (arith, p .loop .inv .1, p .before .pre)) (p .loop .inv .2),
     )
 
 returns : tie.Need-returns Inv-loop μ-loop

@@ -25,10 +25,10 @@ loop-holds c = (omega arith, refl, nothing-yet (now (c .before .before .args .ou
 loop-again : tie.Need-loop-again Inv-loop μ-loop
 loop-again c =
     let p = c .before .before .before in
-    let a = p .before .before .before .args in
-    ( omega arith
-    , rw length-set (p .loop .inv .1)
-    , rw (c .printed-byte .ensures) (map-grows printed (now (a .line)) (now (a .out)) (p .loop .out) (a .at) (p .loop .i) (c .before .before .loop-test .taken) (omega (arith, p .loop .inv .1, p .before .before .before .pre)) (p .loop .inv .2))
+    let a = p .before .before .before .args in (
+      omega arith,
+      rw length-set (p .loop .inv .1),
+      rw (c .printed-byte .ensures) (map-grows printed (now (a .line)) (now (a .out)) (p .loop .out) (a .at) (p .loop .i) (c .before .before .loop-test .taken) (omega (arith, p .loop .inv .1, p .before .before .before .pre)) (p .loop .inv .2)),
     )
 
 returns : tie.Need-returns Inv-loop μ-loop

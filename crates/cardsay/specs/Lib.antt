@@ -1,0 +1,2 @@
+-- The program's turns.
+pub mod Turns
