@@ -76,6 +76,7 @@ make_root() {
     cp "$root/card" "$root/kit.sh" "$root/toolchain.txt" "$own/"
     cp -R "$root/examples" "$own/"
     cp "$program" "$own/target/bin/cardlog"
+    cp "$speaker" "$own/target/bin/cardsay"
     printf '# A comment.\nzone:\ncardlog: zone io\n' >"$own/crates.txt"
     for script in bench/speed.sh bench/differential.sh tests/launcher.sh; do
         printf 'echo "%s ran"\n' "$script" >"$own/$script"
@@ -304,13 +305,56 @@ test_a_cdpath_does_no_harm() {
     expect_day
 }
 
+test_lines_are_sent_to_a_zone_of_the_named_range() {
+    make_root
+    printf 'SSOLW 301\nLSOLW' >lines
+    run "$card" say 500 <lines
+    expect_all 0 "0${tab}QOK00${tab}0
+0${tab}ASOLW 301${tab}0" ''
+    run "$card" say 300 <lines
+    expect_all 0 "9${tab}QFE02${tab}6
+  a figure is outside its range
+  SSOLW 301
+        ^ 0 to 300
+0${tab}ASOLW 000${tab}0" ''
+    expect 'calls of rt' 'check cardsay
+check cardsay' "$(cat calls)"
+    run "$card" say 300 </dev/null
+    expect_all 0 '' ''
+}
+
+test_another_range_is_told_before_anything_is_proved() {
+    make_root
+    for range in 0 30 3000 301 400 300.0 '' ' 300' three; do
+        run "$card" say "$range" <"$day"
+        expect_all 2 '' "card: the temperature range is 300 or 500, and not \"$range\""
+    done
+    run "$card" say 300 <&-
+    expect_all 1 '' 'card: standard input is closed'
+    expect 'calls of rt' '' "$(cat calls)"
+}
+
+test_what_fails_while_lines_are_sent_is_told() {
+    make_root
+    run "$card" say 300 <bin
+    expect_all 1 '' 'cardsay: the input cannot be read'
+    [ -c /dev/full ] || skip 'since there is no /dev/full'
+    printf 'LSOLW\n' >lines
+    "$card" say 300 <lines >/dev/full 2>words
+    expect status 1 "$?"
+    expect 'standard error' 'cardsay: the output cannot be written' "$(cat words)"
+    bench_build "$here/one_call.c" "$own/target/bin/cardsay" '-DCALL=_exit(7)'
+    run "$card" say 300 <lines
+    expect_all 7 '' 'card: the program of an operator ended with status 7'
+}
+
 test_help_is_the_usage_with_status_0() {
     make_root
     run "$card"
     cp out usage
     grep -q '^  ./card log \[FILE\] .* -$' usage || wrong "no usage: '$(cat usage)'"
     expect_all 0 "$(cat usage)" ''
-    for word in help -h --help 'log --help' 'log -h' 'test --help' 'bench --help'; do
+    for word in help -h --help 'log --help' 'log -h' 'say --help' 'test --help' 'bench --help'; do
         # shellcheck disable=SC2086
         run "$card" $word
         expect_all 0 "$(cat usage)" ''
@@ -324,6 +368,10 @@ test_wrong_words_end_with_status_2() {
     expect_all 2 '' 'card: there is no word "lug"; ./card alone says what there is'
     run "$card" log "$day" "$day"
     expect_all 2 '' 'card: usage: ./card log [FILE]'
+    run "$card" say
+    expect_all 2 '' 'card: usage: ./card say RANGE, which is 300 or 500'
+    run "$card" say 300 "$day"
+    expect_all 2 '' 'card: usage: ./card say RANGE, which is 300 or 500'
     run "$card" test all
     expect_all 2 '' 'card: usage: ./card test'
     run "$card" bench twice
@@ -623,7 +671,7 @@ test_the_program_needs_little_stack() {
 
 # ---- all of them
 
-program=$root/target/bin/cardlog
+program=$root/target/bin/cardlog speaker=$root/target/bin/cardsay
 "$root/card" log </dev/null || exit 1
 # shellcheck disable=SC2046
 [ $# -gt 0 ] || set -- $(sed -n 's/^\(test_[a-z0-9_]*\)() {$/\1/p' "$here/launcher.sh")
