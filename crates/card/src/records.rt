@@ -115,7 +115,7 @@ impl Record {
         }
     }
 
-    // The temperature range of a zone; 0 where there is none.
+    // The temperature range that the record has for a zone number; 0 above 15.
     pub fn range_at(self, zone: usize) -> u32
         ensures { λ r. ⌜ r ≡ rangeAt self zone ⌝ }
     {

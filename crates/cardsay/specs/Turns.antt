@@ -1,4 +1,4 @@
--- A byte of the input: a line feed ends the line under way, which is answered from the record just handed back; any other byte is held behind it.
+-- A byte of the input: a line feed ends the line under way, which is answered from the record just handed back; any other byte is held behind it. Whether the program then goes on is not said here: it does unless the output could not be written.
 use Prim.Native.Nat.{ℕ}
 use mathlib.Core.Path.{_≡_}
 use mathlib.Core.List.{List, [], _∷_, _++_}

@@ -22,6 +22,26 @@ struct Between {
     more: bool,
 }
 
+// How many bytes were handed to write, and whether all of them went out.
+struct Written {
+    handed: usize,
+    whole: bool,
+}
+
+// Hands the bytes to write, and tells how many they are.
+fn write(bytes: &[u8]) -> Written
+    ensures { λ w. ⌜ w .handed ≡ length (now (bytes .entry)) ⌝ }
+{
+    let whole = io::write_all(1, bytes);
+    if !whole {
+        io::write_all(2, b"cardsay: the output cannot be written\n");
+    }
+    Written {
+        handed: bytes.len(),
+        whole: whole,
+    }
+}
+
 // Answers the first `held` bytes of the line. If the output cannot be written, the program ends.
 fn answer(r: Record, line: &[u8], held: usize, out: &mut [u8]) -> Between
     requires { ⌜ (held ≤ length (now line)) × (length (now out) ≡ 1500) ⌝ }
@@ -30,15 +50,12 @@ fn answer(r: Record, line: &[u8], held: usize, out: &mut [u8]) -> Between
     let shown = saying::say(r, &line[0..held], out);
     let filled = shown.filled;
     let after = shown.after;
-    let whole = io::write_all(1, &out[0..filled]);
-    if !whole {
-        io::write_all(2, b"cardsay: the output cannot be written\n");
-    }
+    let written = write(&out[0..filled]);
     Between {
         after: after,
         held: 0,
-        handed: filled,
-        more: whole,
+        handed: written.handed,
+        more: written.whole,
     }
 }
 

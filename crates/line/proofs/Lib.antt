@@ -8,3 +8,4 @@ pub mod OutLaws
 pub mod PlaceLaws
 pub mod Placed
 pub mod Patterns
+pub mod Worked

@@ -1,6 +1,6 @@
 -- A pattern of bytes says what is expected at each index. Assumes nothing.
 use Prim.Native.Nat.{ℕ, zero, suc, compare·suc-suc}
-use mathlib.Core.Path.{_≡_, refl, _∙_}
+use mathlib.Core.Path.{_≡_}
 use mathlib.Core.List.{List, [], _∷_, map}
 use native.Mathlib.Omega.{arith}
 use lib.ListN.{length}

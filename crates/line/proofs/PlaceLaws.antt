@@ -13,13 +13,13 @@ use Rattle.zone.specs.Lists.{within, total}
 use Rattle.zone.specs.Table.{Column, digits}
 use Rattle.wire.specs.declared.Figure.{Figure}
 use Rattle.wire.specs.declared.Figure.the-variants as figure
-use Rattle.wire.specs.Road.{Numbers, are, none, numbersAt}
+use Rattle.wire.specs.Road.{are, none, numbersAt}
 use Rattle.wire.proofs.Choices.{by-cond}
 use Rattle.line.specs.declared.fields.Judged.{Judged}
 use Rattle.line.specs.declared.fields.Judged.the-variants.{Value, Wrong}
 use Rattle.line.specs.Field.{upToSpace, fieldOf, digitsBehind, digitsOf, figureOf}
 use Rattle.line.specs.Line.{textRoad}
-use Rattle.line.specs.Places.{Place, nowhere, offset, told, Expected, space, meets, wrongFrom, digitsExpected, figuresExpected}
+use Rattle.line.specs.Places.{Place, nowhere, offset, Expected, space, meets, wrongFrom, digitsExpected, figuresExpected}
 use Rattle.line.specs.Inner.{judgedBy, digitsRead, moved, figureRead, Walked, all, wrong, onward, walk}
 
 -- ---- a field is a figure of its width exactly where it has no place

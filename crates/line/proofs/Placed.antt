@@ -1,14 +1,14 @@
 -- Number and place go together: a line is a syntax error exactly where it has the place of one, and a figure is out of range exactly where there is a first one. Both places lie behind the five letters and within the line. Assumes nothing.
-use Prim.Native.Nat.{ℕ, _+_, _≤_, _<_}
-use mathlib.Core.Path.{_≡_, refl, sym, ap, _∙_}
+use Prim.Native.Nat.{ℕ, _+_, _-_, _≤_, _<_}
+use mathlib.Core.Path.{_≡_, refl, ap, _∙_}
 use mathlib.Core.Logic.{_↔_}
 use mathlib.Core.Bool.{Bool, true, false, cond, _&&_}
-use mathlib.Core.List.{List, [], _∷_, _++_}
+use mathlib.Core.List.{List, [], _∷_, _++_, append-assoc}
 use native.Mathlib.Omega.{arith}
 use lib.ListN.{length, drop, take, getD, length-drop, length-append, drop-of-length-le}
-use lib.Seq.{drop-cons}
+use lib.Seq.{drop-cons, getD-append-seam}
 use lib.Dec.{ltb, eqb}
-use borrow.Author.Tests.{lt-ltb, le-ltb, ltb-true, ltb-false, eq-eqb, ne-eqb, eqb-true, eqb-false}
+use borrow.Author.Tests.{ltb-true, ltb-false, eq-eqb, ne-eqb, eqb-true, eqb-false}
 use Rattle.zone.specs.declared.figures.Group.{Group}
 use Rattle.zone.specs.declared.figures.Group.the-variants.{Ahue, Hzbg, Rrue, Solw}
 use Rattle.zone.specs.declared.figures.Figures.{Figures}
@@ -23,9 +23,9 @@ use Rattle.wire.specs.declared.Parsed.the-variants.{Known, Unknown, Syntax}
 use Rattle.wire.specs.Road.{entryBytes, inOrder, figureBytes, lengthOf, none, numbersAt, formRead, writeRead, commandRead}
 use Rattle.wire.proofs.Choices.{by-cond}
 use Rattle.line.specs.declared.reading.Reading.{Reading}
-use Rattle.line.specs.Line.{L, S, textRoad, lineOf, groupNamed, namedRead, lineRead}
-use Rattle.line.specs.Places.{Place, nowhere, offset, told, Expected, wrongFrom, figuresExpected, formFor, meets, wrongAs, namedWrong, wrongIn, outFrom}
-use Rattle.line.specs.Rules.{SyntaxHasPlace, SyntaxPlaceWithin, RangeHasPlace, RangePlaceWithin}
+use Rattle.line.specs.Line.{digitsFor, L, S, textRoad, lineOf, groupNamed, namedRead, lineRead}
+use Rattle.line.specs.Places.{Place, nowhere, offset, told, Expected, wrongFrom, figuresExpected, formFor, meets, wrongAs, namedWrong, wrongIn, outFrom, namedExpects, expectedIn}
+use Rattle.line.specs.Rules.{SyntaxHasPlace, SyntaxPlaceWithin, RangeHasPlace, RangePlaceWithin, ExpectedThere}
 use Rattle.line.specs.Inner.{Walked, all, wrong, walk, readBy, formWalked}
 use Rattle.line.proofs.DigitRule.{digits-length}
 use Rattle.line.proofs.Round.{line-only}
@@ -222,7 +222,54 @@ write-length figures = by-group (groupOf figures) (figureBytes textRoad figures)
     by-group Rrue l = omega arith
     by-group Solw l = omega arith
 
+-- each figure's bytes begin with a space, at which the walk stands before it
+space-before : (range : ℕ) (pre : List ℕ) (es : List Entry) (n : ℕ) → outFrom range (length pre) es ≡ offset n → getD (pre ++ inOrder textRoad es) (n - 1) 0 ≡ 32
+unfolding outFrom
+space-before range pre [] n h = no-place h
+space-before range pre (e ∷ es) n h =
+    by-cond (fits range e) h
+    (λ t k.
+    let l : length (pre ++ entryBytes textRoad e) ≡ length pre + textRoad .width (e .column .kind) = rw (length-append, digits-length (digits (e .column .kind)) (e .number)) (omega arith) in
+    rw (append-assoc pre (entryBytes textRoad e) (inOrder textRoad es)) at (space-before range (pre ++ entryBytes textRoad e) es n (ap (λ (i : ℕ). outFrom range i es) l ∙ k)))
+    (λ t k.
+    let z : length pre + 1 ≡ n = cc in
+    let m : n - 1 ≡ length pre = omega (arith, z) in
+    rw m (getD-append-seam pre 32 (digitsFor (digits (e .column .kind)) (e .number) ++ inOrder textRoad es) 0))
+
+write-space : (range : ℕ) (figures : Figures) (n : ℕ) → outFrom range 5 (entriesOf figures) ≡ offset n → getD (lineOf (Write figures)) (n - 1) 0 ≡ 32
+unfolding lineOf
+write-space range figures n h = space-before range (S ∷ name (groupOf figures)) (entriesOf figures) n (by-group (groupOf figures) h)
+  where
+    by-group : (g : Group) → outFrom range 5 (entriesOf figures) ≡ offset n → outFrom range (length (S ∷ name g)) (entriesOf figures) ≡ offset n
+    by-group Ahue k = k
+    by-group Hzbg k = k
+    by-group Rrue k = k
+    by-group Solw k = k
+
 pub range-place-within : RangePlaceWithin
 range-place-within l range figures n e o =
     let w = out-within range 5 (entriesOf figures) n o in
-    (w .0, omega (arith, w .1, ap length (line-only l (Write figures) e .line-is), write-length figures))
+    let is = line-only l (Write figures) e .line-is in
+    record {
+      behind-letters = w .0;
+      within-line = omega (arith, w .1, ap length is, write-length figures);
+      space-before = ap (λ (k : List ℕ). getD k (n - 1) 0) is ∙ write-space range figures n o;
+    }
+
+-- ---- what is expected in a wrong line
+
+named-expected : (g : Named) (l : List ℕ) (n : ℕ) → namedWrong g l ≡ offset n → wrongFrom 5 (namedExpects g l) (drop 5 l) ≡ offset n
+named-expected NoGroup l n e = no-place e
+named-expected (Is g) l n e =
+    by-cond (eqb (getD l 0 0) L) e
+    (λ t k.
+    let z : getD l 0 0 ≡ L = eqb-true _ _ t in
+    rw z k)
+    (λ t k. by-cond (eqb (getD l 0 0) S) k (λ u h. rw u h) (λ u h. no-place h))
+
+pub expected-there : ExpectedThere
+unfolding wrongIn expectedIn
+expected-there l n e =
+    by-cond (ltb (length l) 5) e
+    (λ t k. no-place k)
+    (λ t k. rw t (named-expected (groupNamed (take 4 (drop 1 l))) l n k))

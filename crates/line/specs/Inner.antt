@@ -30,7 +30,7 @@ judgedBy figure.Bad place = Wrong (told place)
 unfoldable pub digitsRead : ℕ → List ℕ → Judged
 digitsRead width l = judgedBy (digitsOf width l) (wrongFrom 0 (digitsExpected width) l)
 
--- the same, digit by digit: `width` of them behind a number v that was read so far, from index i on (digits-walked, in proofs/PlaceLaws.antt)
+-- the same, digit by digit: `width` of them behind a number v that was read so far, from index i on (digits-walked, in proofs/DigitLaws.antt)
 unfoldable pub digitsWalked : ℕ → ℕ → ℕ → List ℕ → Judged
 digitsWalked v i zero [] = Value v
 digitsWalked v i zero (x ∷ l) = Wrong i

@@ -3,4 +3,5 @@ pub mod Field
 pub mod Line
 pub mod Places
 pub mod Rules
+pub mod Worked
 pub mod Inner

@@ -39,7 +39,7 @@ abbrev pub meets : Expected → ℕ → Bool
 meets space x = eqb x 32
 meets digit x = within 48 57 x
 
--- what is expected from offset i on, held against the bytes that stand there
+-- what is expected from offset i on, held against the bytes that stand there; where no byte is left, i is the line's length
 unfoldable pub wrongFrom : ℕ → List Expected → List ℕ → Place
 -- "the line offset of the first byte that isn't the expected digit or space"
 wrongFrom i (e ∷ es) (x ∷ l) = cond (meets e x) (wrongFrom (i + 1) es l) (offset i)
@@ -68,7 +68,7 @@ formFor Solw n = solw
 abbrev pub writeExpected : Group → ℕ → List Expected
 writeExpected group n = figuresExpected (layout (formFor group n) .columns)
 
--- behind its five letters a read expects nothing, and a write the figures of its form
+-- behind its five letters a read expects nothing ("A read is L and the four capital letters"), and a write the figures of its form
 abbrev pub wrongAs : ℕ → Group → List ℕ → Place
 wrongAs letter group l =
     cond (eqb letter L) (wrongFrom 5 [] (drop 5 l))

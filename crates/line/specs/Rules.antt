@@ -1,10 +1,10 @@
 -- Rules of the text road that are proved of its definitions. Above each stands where.
-use Prim.Native.Nat.{ℕ, _≤_, _<_, _^_}
+use Prim.Native.Nat.{ℕ, _-_, _≤_, _<_, _^_}
 use mathlib.Core.Path.{_≡_}
 use mathlib.Core.Logic.{_↔_}
 use mathlib.Core.Bool.{true, false}
 use mathlib.Core.List.{List, [], _∷_, map}
-use lib.ListN.{length}
+use lib.ListN.{length, getD, drop}
 use Rattle.zone.specs.declared.figures.Figures.{Figures}
 use Rattle.zone.specs.declared.figures.Command.{Command}
 use Rattle.zone.specs.Table.{everyForm}
@@ -15,7 +15,7 @@ use Rattle.wire.specs.declared.Parsed.the-variants.{Known, Syntax}
 use Rattle.wire.specs.Road.{carriesCommand, lengthOf}
 use Rattle.line.specs.Field.{digitsOf}
 use Rattle.line.specs.Line.{digitsFor, textRoad, lineOf, lineRead}
-use Rattle.line.specs.Places.{offset, wrongIn, outFrom}
+use Rattle.line.specs.Places.{offset, wrongFrom, wrongIn, outFrom, expectedIn}
 
 -- "The rule for a digit field is proved once over its width": a field is read as n exactly where it is the `width` digits of n. `digit-field`, in proofs/DigitRule.antt
 abbrev pub DigitField : Type 0
@@ -39,7 +39,7 @@ OnlyItsLine = (line : List ℕ) (command : Command) → lineRead line ≡ Known 
 
 -- ---- places, document 02, Req 04
 
--- a line is a syntax error, as it was before there were places, exactly where it has the place of an 8. `syntax-has-place`, in proofs/Placed.antt
+-- a line is a syntax error, by document 01's definition of it, exactly where it has the place of an 8. `syntax-has-place`, in proofs/Placed.antt
 abbrev pub SyntaxHasPlace : Type 0
 SyntaxHasPlace = (line : List ℕ) → (lineRead line ≡ Syntax) ↔ ((n : ℕ) × (wrongIn line ≡ offset n))
 
@@ -51,6 +51,15 @@ SyntaxPlaceWithin = (line : List ℕ) (n : ℕ) → wrongIn line ≡ offset n �
 abbrev pub RangeHasPlace : Type 0
 RangeHasPlace = (range : ℕ) (figures : Figures) → (inRange range figures ≡ false) ↔ ((n : ℕ) × (outFrom range 5 (entriesOf figures) ≡ offset n))
 
--- which is that of a byte of the line behind the five letters and a space. `range-place-within`, in proofs/Placed.antt
+-- which is that of a byte of the line, and the byte before it is a space. `range-place-within`, in proofs/Placed.antt
+pub record BehindSpace (line : List ℕ) (n : ℕ) : Type 0 where
+  pub behind-letters : 5 < n
+  pub within-line : n < length line
+  pub space-before : getD line (n - 1) 0 ≡ 32
+
 abbrev pub RangePlaceWithin : Type 0
-RangePlaceWithin = (line : List ℕ) (range : ℕ) (figures : Figures) (n : ℕ) → lineRead line ≡ Known (Write figures) → outFrom range 5 (entriesOf figures) ≡ offset n → (5 < n) × (n < length line)
+RangePlaceWithin = (line : List ℕ) (range : ℕ) (figures : Figures) (n : ℕ) → lineRead line ≡ Known (Write figures) → outFrom range 5 (entriesOf figures) ≡ offset n → BehindSpace line n
+
+-- what is expected in a wrong line is what its place was found by. `expected-there`, in proofs/Placed.antt
+abbrev pub ExpectedThere : Type 0
+ExpectedThere = (line : List ℕ) (n : ℕ) → wrongIn line ≡ offset n → wrongFrom 5 (expectedIn line) (drop 5 line) ≡ offset n

@@ -1,12 +1,12 @@
 -- What the place of an answer says of its line. Assumes nothing.
 use Prim.Native.Nat.{ℕ, _≤_, _<_}
-use mathlib.Core.Path.{_≡_, refl, sym, ap, _∙_}
+use mathlib.Core.Path.{_≡_, refl, ap, _∙_}
 use mathlib.Core.Bool.{Bool, true, false, cond, not}
 use mathlib.Core.List.{List}
 use native.Mathlib.Omega.{arith}
 use lib.ListN.{length}
 use lib.Dec.{eqb}
-use borrow.Author.Tests.{ne-eqb, not-true, eqb-true, eqb-false}
+use borrow.Author.Tests.{le-ltb, ne-eqb, not-true, eqb-true, eqb-false}
 use Rattle.zone.specs.declared.figures.Figures.{Figures}
 use Rattle.zone.specs.declared.figures.Command.the-variants.{Read, Write}
 use Rattle.zone.specs.Figures.{groupOf, entriesOf, inRange}
@@ -16,12 +16,12 @@ use Rattle.card.specs.Refusals.{first}
 use Rattle.card.specs.Records.{zoneAt, sound, noZone}
 use Rattle.wire.specs.declared.Parsed.{Parsed}
 use Rattle.wire.specs.declared.Parsed.the-variants.{Known, Unknown, Syntax}
-use Rattle.wire.proofs.Choices.{by-cond}
 use Rattle.line.specs.Line.{lineRead}
 use Rattle.line.specs.Places.{told, offset, wrongIn, outFrom, outIn}
+use Rattle.line.specs.Rules.{BehindSpace}
 use Rattle.line.proofs.Placed.{syntax-has-place, syntax-place-within, range-has-place, range-place-within}
 use Rattle.roads.specs.Calls.{tooSmall, parsedRows, textResult, answerText, placeBy, textPlace}
-use Rattle.roads.specs.Rules.{PlaceWith, PlaceGiven}
+use Rattle.roads.specs.Rules.{PlaceGiven, PlaceTold}
 
 -- a number behind the rows of 1, 2 and 3
 behind-three : (a b c : Bool) (rest n : ℕ) → 3 < n → cond a 1 (cond b 2 (cond c 3 rest)) ≡ n → rest ≡ n
@@ -77,15 +77,13 @@ place-given r n line room = record { eight = eight; nine = nine; others = others
         let q : placeBy number range line ≡ p .0 = ap (λ (m : ℕ). placeBy m range line) e ∙ ap told (p .1) in
         rw q (p .1, w .0, w .1)
 
-    nine : number ≡ 9
-        → (figures : Figures) × (lineRead line ≡ Known (Write figures)) × (outFrom range 5 (entriesOf figures) ≡ offset (placeBy number range line)) × (5 < placeBy number range line) × (placeBy number range line < length line)
+    nine : number ≡ 9 → (figures : Figures) × (lineRead line ≡ Known (Write figures)) × (outFrom range 5 (entriesOf figures) ≡ offset (placeBy number range line)) × BehindSpace line (placeBy number range line)
     nine e =
         let k = nine-read r n line room (lineRead line) (given r n line room 9 (omega arith) e) in
         let f = k .0 in
         let p = range-has-place range f .0 (k .2) in
-        let w = range-place-within line range f (p .0) (k .1) (p .1) in
         let q : placeBy number range line ≡ p .0 = ap (λ (m : ℕ). placeBy m range line) e ∙ ap (λ (x : Parsed). told (outIn range x)) (k .1) ∙ ap told (p .1) in
-        (f, k .1, rw q (p .1), rw q (w .0), rw q (w .1))
+        (f, k .1, rw q (p .1), rw q (range-place-within line range f (p .0) (k .1) (p .1)))
 
     others : (number ≡ 8 → ⊥) → (number ≡ 9 → ⊥) → placeBy number range line ≡ 0
     others u v = rw (ne-eqb number 8 u, ne-eqb number 9 v)
@@ -96,5 +94,24 @@ place-below r n line room = by-number (eqb (answerText r n line room .said .numb
   where
     by-number : (t u : Bool) → eqb (answerText r n line room .said .number) 8 ≡ t → eqb (answerText r n line room .said .number) 9 ≡ u → textPlace r n line room ≤ length line
     by-number true u e h = place-given r n line room .eight (eqb-true _ _ e) .2
-    by-number false true e h = omega (arith, place-given r n line room .nine (eqb-true _ _ h) .4)
+    by-number false true e h = omega (arith, place-given r n line room .nine (eqb-true _ _ h) .3 .within-line)
     by-number false false e h = omega (arith, place-given r n line room .others (eqb-false _ _ e) (eqb-false _ _ h))
+
+pub place-told : PlaceTold
+unfolding textPlace answerText
+place-told r n line room p big s z = record { eight = eight; nine = nine }
+  where
+    number : ℕ
+    number = textResult r n line room .number
+
+    eight : wrongIn line ≡ offset p → (number ≡ 8) × (placeBy number (zoneAt r n .range) line ≡ p)
+    eight e =
+        let is = syntax-has-place line .1 (p, e) in
+        let given : number ≡ 8 = rw (le-ltb (length room) 32 big, s, z, is) in
+        (given, ap (λ (m : ℕ). placeBy m (zoneAt r n .range) line) given ∙ ap told e)
+
+    nine : (figures : Figures) → lineRead line ≡ Known (Write figures) → outFrom (zoneAt r n .range) 5 (entriesOf figures) ≡ offset p → (number ≡ 9) × (placeBy number (zoneAt r n .range) line ≡ p)
+    nine f is e =
+        let out = range-has-place (zoneAt r n .range) f .1 (p, e) in
+        let given : number ≡ 9 = rw (le-ltb (length room) 32 big, s, z, is, out) in
+        (given, ap (λ (m : ℕ). placeBy m (zoneAt r n .range) line) given ∙ ap (λ (x : Parsed). told (outIn (zoneAt r n .range) x)) is ∙ ap told e)

@@ -100,7 +100,8 @@ inTextReply o room = record { said = said (o .number) (o .values) (textReply (o 
 unfoldable pub answerText : Record → ℕ → List ℕ → List ℕ → Answered
 answerText r n line room = inTextReply (textResult r n line room) room
 
--- "Answers 8 and 9 on the text road carry that place, all others 0" (document 02, Req 04): that of the line, and that of its figures in a zone of that range
+-- The place, which stands beside what is answered: "Wire replies stay as they are" (document 02, Req 04). "Answers 8 and 9 on the text road carry that place, all others 0":
+-- 8 where the line is wrong, 9 where the first figure starts that is out of range in a zone of that temperature range
 abbrev pub placeBy : ℕ → ℕ → List ℕ → ℕ
 placeBy number range line = cond (eqb number 8) (told (wrongIn line)) (cond (eqb number 9) (told (outIn range (lineRead line))) 0)
 

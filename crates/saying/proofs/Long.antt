@@ -1,5 +1,5 @@
 -- Of a line that is too long nothing is said but that it is: so its first 601 bytes say the same as all of it. Assumes nothing.
-use Prim.Native.Nat.{ℕ, _≤_, _<_}
+use Prim.Native.Nat.{ℕ, _<_}
 use mathlib.Core.Path.{_≡_, refl}
 use mathlib.Core.Bool.{Bool, true, false}
 use mathlib.Core.List.{List}

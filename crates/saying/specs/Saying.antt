@@ -1,6 +1,5 @@
 -- What `./card say` writes for a line that is sent to zone 0: its answer, and for a refusal what is wrong, in words.
 use Prim.Native.Nat.{ℕ, _-_}
-use Prim.Native.String.{String}
 use mathlib.Core.Bool.{cond, _||_}
 use mathlib.Core.List.{List, [], _∷_, _++_, map}
 use lib.ListN.{length, replicate}
@@ -23,15 +22,15 @@ use Rattle.texts.specs.Texts.{lineFeed, tab, orDash}
 abbrev pub decimalFor : ℕ → List ℕ
 decimalFor n = cond (ltb n 10) (digitsFor 1 n) (cond (ltb n 100) (digitsFor 2 n) (digitsFor 3 n))
 
--- "number, tab, reply (or -), tab, place"
+-- number, reply (or -) and place, parted by tabs
 abbrev pub answerLine : ℕ → List ℕ → ℕ → List ℕ
 answerLine number reply place = decimalFor number ++ (tab ∷ (orDash reply ++ (tab ∷ (decimalFor place ++ (lineFeed ∷ [])))))
 
--- "a line follows that begins with two blanks"
+-- a line that begins with two blanks
 abbrev pub behindBlanks : List ℕ → List ℕ
 behindBlanks words = 32 ∷ 32 ∷ (words ++ (lineFeed ∷ []))
 
--- "says in words what the number means": the numbers of the text road, and 13
+-- what a number means, in words: the numbers of the text road, and 13, which stands last; no other is given to a line
 abbrev pub meaning : ℕ → List ℕ
 meaning number =
     cond (eqb number 1) (ascii "the room for the reply is below 32 bytes")
@@ -43,7 +42,7 @@ meaning number =
     (cond (eqb number 10) (ascii "the write is not permitted in this state")
     (ascii "unreadable: the line has more than 600 bytes")))))))
 
--- "a byte that does not print as a dot"
+-- a byte that does not print is a dot
 abbrev pub printed : ℕ → ℕ
 printed x = cond (within 32 126 x) x 46
 
@@ -52,7 +51,7 @@ words Space = ascii "a space"
 words Digit = ascii "a digit"
 words Nothing = ascii "nothing more"
 
--- "5 to 99": the range of the first figure that is out of it
+-- as "5 to 99": the range of the first figure that is out of it
 unfoldable pub rangeMissed : ℕ → List Entry → List ℕ
 rangeMissed range [] = []
 rangeMissed range (e ∷ es) = cond (fits range e) (rangeMissed range es) (decimalFor (e .column .lowest) ++ (ascii " to " ++ decimalFor (e .column .highest range)))
@@ -63,11 +62,11 @@ entriesIn (Known (Read group)) = []
 entriesIn Unknown = []
 entriesIn Syntax = []
 
--- "what is expected there"; the figures stand behind the five letters
+-- what is expected at the place; the figures stand behind the five letters
 abbrev pub expectation : ℕ → ℕ → List ℕ → ℕ → List ℕ
 expectation number range line place = cond (eqb number 8) (words (expectedAt (expectedIn line) (place - 5))) (rangeMissed range (entriesIn (lineRead line)))
 
--- "the line sent .. and under it a caret at the place with what is expected there"
+-- the line that was sent, and under it a caret at the place with what is expected there
 abbrev pub caretAt : ℕ → List ℕ → List ℕ
 caretAt place expected = replicate place 32 ++ (94 ∷ 32 ∷ expected)
 
@@ -84,7 +83,7 @@ pub record Said : Type 0 where
   pub output : List ℕ
   pub after : Record
 
--- "A line .. has at most 600 bytes"
+-- a line has at most 600 bytes, as a line of the log
 abbrev pub longest : ℕ
 longest = 600
 
@@ -98,7 +97,7 @@ saidBy r line a place = record {
   after = a .after;
 }
 
--- "a longer one is answered as document 01's log answers one, 13, -, 0", and changes nothing
+-- a longer one is answered as the log answers one, with 13, and changes nothing
 abbrev pub tooLong : Record → Said
 tooLong r = record { output = answerLine 13 [] 0 ++ explained 13 0 [] 0; after = r }
 

@@ -212,7 +212,7 @@ pub record Judged (r : Record) (n : ℕ) (figures : Figures) (room : List ℕ) :
 abbrev pub WritesAreJudged : Type 0
 WritesAreJudged = (r : Record) (n : ℕ) (figures : Figures) (room : List ℕ) → Present r n → 32 ≤ length room → Judged r n figures room
 
--- what is compared of two answers: the record, the number and the figures
+-- what is compared of two answers: the record, the number and the figures. "Demand 3 compares numbers and figures, not places" (document 02, Req 04)
 pub record Same (a b : Answered) : Type 0 where
   pub same-record : a .after ≡ b .after
   pub same-number : a .said .number ≡ b .said .number

@@ -76,7 +76,7 @@ pub struct Ranged {
     pub highest: u32,
 }
 
-fn within(number: u32, lowest: u32, highest: u32) -> Ranged
+fn figure(number: u32, lowest: u32, highest: u32) -> Ranged
     ensures { λ r. ⌜ r ≡ record { number = number; lowest = lowest; highest = highest } ⌝ }
 {
     Ranged {
@@ -112,31 +112,31 @@ impl Figures {
     pub fn row(self, range: u32) -> [Ranged; 5]
         ensures { λ r. ⌜ r ≡ five range self ⌝ }
     {
-        let none = within(0, 0, 0);
+        let none = figure(0, 0, 0);
         match self {
             Figures::AhueDeadline(f) => [
-                within(f.flag, 0, 1),
-                within(f.lower, 5, 99),
-                within(f.upper, 5, 99),
-                within(f.time, 0, 999),
+                figure(f.flag, 0, 1),
+                figure(f.lower, 5, 99),
+                figure(f.upper, 5, 99),
+                figure(f.time, 0, 999),
                 none,
             ],
             Figures::AhueWindow(f) => [
-                within(f.flag, 0, 1),
-                within(f.lower, 5, 99),
-                within(f.upper, 5, 99),
-                within(f.begin, 0, 998),
-                within(f.end, 1, 999),
+                figure(f.flag, 0, 1),
+                figure(f.lower, 5, 99),
+                figure(f.upper, 5, 99),
+                figure(f.begin, 0, 998),
+                figure(f.end, 1, 999),
             ],
-            Figures::HzbgLimit(f) => [within(f.time, 0, 999), none, none, none, none],
+            Figures::HzbgLimit(f) => [figure(f.time, 0, 999), none, none, none, none],
             Figures::RrueReference(f) => [
-                within(f.flag, 0, 1),
-                within(f.lower, 5, 100),
-                within(f.upper, 5, 100),
+                figure(f.flag, 0, 1),
+                figure(f.lower, 5, 100),
+                figure(f.upper, 5, 100),
                 none,
                 none,
             ],
-            Figures::SolwSetpoint(f) => [within(f.setpoint, 0, range), none, none, none, none],
+            Figures::SolwSetpoint(f) => [figure(f.setpoint, 0, range), none, none, none, none],
         }
     }
 

@@ -6,7 +6,7 @@ use Rattle.card.specs.Answers.{numberOf}
 use Rattle.card.specs.Inner.{askOf}
 use Rattle.roads.specs.Acknowledgements.{textReply}
 use Rattle.roads.specs.Calls.{Answered, answerText, textPlace}
-use Rattle.roads.specs.Inner.{askedBy, placeFound}
+use Rattle.roads.specs.Inner.{askedBy}
 use Rattle.roads.proofs.CallLaws.{text-answer, text-placed}
 use borrow.Author.Needs.{needs}
 use Rattle.roads.proofs.calls.text.Statement.{statement}

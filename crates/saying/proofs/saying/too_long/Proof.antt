@@ -1,5 +1,4 @@
 -- The answer, and what it means.
-use mathlib.Core.Path.{_≡_}
 use native.Mathlib.Omega.{arith}
 use Rattle.saying.proofs.Growing.{behind}
 use borrow.Author.Needs.{needs}

@@ -1,5 +1,4 @@
 -- The digits are those of the number, as many as it needs.
-use mathlib.Core.Path.{sym}
 use native.Mathlib.Omega.{arith}
 use native.Mathlib.Nat.{div-one}
 use borrow.Author.Tests.{lt-ltb, le-ltb}

@@ -1,5 +1,4 @@
 -- The test is the definition's.
-use borrow.Author.Needs.{needs}
 use Rattle.saying.proofs.writing.printed_byte.Statement.{statement}
 use Rattle.saying.proofs.writing.printed_byte.Tie as tie
 
