@@ -1,4 +1,5 @@
--- What the functions below the calls come to. No rule of document 01 stands here, and no promise of a call that document 01 names cites it; `ask` and `range_at`, which the roads call, are promised by askOf and rangeAt below.
+-- What the functions below the calls come to. No rule of document 01 stands here, and no promise of a call that document 01 names cites it; `ask`, which the roads call, is promised by askOf below.
+-- So is `range_at`, by rangeAt.
 use Prim.Native.Nat.{ℕ}
 use mathlib.Core.Bool.{Bool, true, false, cond, not}
 use mathlib.Core.List.{[], _∷_}
