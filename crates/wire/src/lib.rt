@@ -1,7 +1,7 @@
 // What the two roads have in common: what bytes are found to be, and bytes put into a lent room.
 //
 // specs/Road.antt says once for both roads how a command stands in bytes; a road adds how wide a
-// figure is and how it is written and read. proofs/Row.antt proves once for both that what was
+// figure is and how it is written and read. proofs/Layouts.antt proves once for both that what was
 // written is read, and that nothing else is.
 use zone::Command;
 use zone::Group;
