@@ -2,7 +2,7 @@
 use Prim.Native.Nat.{ℕ, _+_, _-_, _≤_, _<_}
 use mathlib.Core.Path.{_≡_, refl, ap, _∙_}
 use mathlib.Core.Logic.{_↔_}
-use mathlib.Core.Bool.{Bool, true, false, cond, _&&_}
+use mathlib.Core.Bool.{Bool, true, false, cond, _&&_, _||_}
 use mathlib.Core.List.{List, [], _∷_, _++_, append-assoc}
 use native.Mathlib.Omega.{arith}
 use lib.ListN.{length, drop, take, getD, length-drop, length-append, drop-of-length-le}
@@ -24,7 +24,7 @@ use Rattle.wire.specs.Road.{entryBytes, inOrder, figureBytes, lengthOf, none, n
 use Rattle.wire.proofs.Choices.{by-cond}
 use Rattle.line.specs.declared.reading.Reading.{Reading}
 use Rattle.line.specs.Line.{digitsFor, L, S, textRoad, lineOf, groupNamed, namedRead, lineRead}
-use Rattle.line.specs.Places.{Place, nowhere, offset, told, Expected, wrongFrom, figuresExpected, formFor, meets, wrongAs, namedWrong, wrongIn, outFrom, namedExpects, expectedIn}
+use Rattle.line.specs.Places.{Place, nowhere, offset, told, Expected, wrongFrom, figuresExpected, formFor, meets, expectedAs, wrongAs, namedWrong, wrongIn, outFrom, namedExpects, expectedIn}
 use Rattle.line.specs.Rules.{SyntaxHasPlace, SyntaxPlaceWithin, RangeHasPlace, RangePlaceWithin, ExpectedThere}
 use Rattle.line.specs.Inner.{Walked, all, wrong, walk, readBy, formWalked}
 use Rattle.line.proofs.DigitRule.{digits-length}
@@ -114,7 +114,7 @@ as-together letter g l long = by-letter (eqb letter L) (eqb letter S)
 
     by-letter : (t u : Bool)
         → Together (cond t (cond (eqb (length l) 5) (Known (Read g)) Syntax) (cond u (writeRead textRoad (formsOf g) l) Unknown))
-        (cond t (wrongFrom 5 [] (drop 5 l)) (cond u (wrongFrom 5 (figuresExpected (layout (formFor g (length l)) .columns)) (drop 5 l)) nowhere))
+        (cond (t || u) (wrongFrom 5 (cond t [] (figuresExpected (layout (formFor g (length l)) .columns))) (drop 5 l)) nowhere)
     by-letter true u = by-length (eqb (length l) 5) refl
     by-letter false true = write-placed g l long .together
     by-letter false false = tt
@@ -167,9 +167,9 @@ behind-within es l n long e =
 named-within : (g : Named) (l : List ℕ) (n : ℕ) → 5 ≤ length l → namedWrong g l ≡ offset n → (5 ≤ n) × (n ≤ length l)
 named-within NoGroup l n long e = no-place e
 named-within (Is g) l n long e =
-    by-cond (eqb (getD l 0 0) L) e
-    (λ t k. behind-within [] l n long k)
-    (λ t k. by-cond (eqb (getD l 0 0) S) k (λ u h. behind-within _ l n long h) (λ u h. no-place h))
+    by-cond (eqb (getD l 0 0) L || eqb (getD l 0 0) S) e
+    (λ t k. behind-within (expectedAs (getD l 0 0) g (length l)) l n long k)
+    (λ t k. no-place k)
 
 pub syntax-place-within : SyntaxPlaceWithin
 unfolding wrongIn
@@ -260,12 +260,7 @@ range-place-within l range figures n e o =
 
 named-expected : (g : Named) (l : List ℕ) (n : ℕ) → namedWrong g l ≡ offset n → wrongFrom 5 (namedExpects g l) (drop 5 l) ≡ offset n
 named-expected NoGroup l n e = no-place e
-named-expected (Is g) l n e =
-    by-cond (eqb (getD l 0 0) L) e
-    (λ t k.
-    let z : getD l 0 0 ≡ L = eqb-true _ _ t in
-    rw z k)
-    (λ t k. by-cond (eqb (getD l 0 0) S) k (λ u h. rw u h) (λ u h. no-place h))
+named-expected (Is g) l n e = by-cond (eqb (getD l 0 0) L || eqb (getD l 0 0) S) e (λ t k. k) (λ t k. no-place k)
 
 pub expected-there : ExpectedThere
 unfolding wrongIn expectedIn

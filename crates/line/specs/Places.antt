@@ -1,6 +1,6 @@
 -- Where a line is wrong: document 02, Req 04, "Say where the line is wrong". An offset counts the line's bytes from 0.
 use Prim.Native.Nat.{ℕ, zero, suc, _+_}
-use mathlib.Core.Bool.{Bool, cond}
+use mathlib.Core.Bool.{Bool, cond, _||_}
 use mathlib.Core.List.{List, [], _∷_, _++_}
 use lib.ListN.{length, getD, take, drop}
 use lib.Dec.{ltb, eqb}
@@ -65,14 +65,13 @@ formFor Hzbg n = hzbg
 formFor Rrue n = rrue
 formFor Solw n = solw
 
-abbrev pub writeExpected : Group → ℕ → List Expected
-writeExpected group n = figuresExpected (layout (formFor group n) .columns)
+-- what the line of a known command expects behind its five letters: a read nothing ("A read is L and the four capital letters"), a write of n bytes the figures of its form
+abbrev pub expectedAs : ℕ → Group → ℕ → List Expected
+expectedAs letter group n = cond (eqb letter L) [] (figuresExpected (layout (formFor group n) .columns))
 
--- behind its five letters a read expects nothing ("A read is L and the four capital letters"), and a write the figures of its form
+-- first letters other than L and S are no known command's
 abbrev pub wrongAs : ℕ → Group → List ℕ → Place
-wrongAs letter group l =
-    cond (eqb letter L) (wrongFrom 5 [] (drop 5 l))
-    (cond (eqb letter S) (wrongFrom 5 (writeExpected group (length l)) (drop 5 l)) nowhere)
+wrongAs letter group l = cond (eqb letter L || eqb letter S) (wrongFrom 5 (expectedAs letter group (length l)) (drop 5 l)) nowhere
 
 abbrev pub namedWrong : Named → List ℕ → Place
 namedWrong NoGroup l = nowhere
@@ -89,12 +88,16 @@ unfoldable pub outFrom : ℕ → ℕ → List Entry → Place
 outFrom range i [] = nowhere
 outFrom range i (e ∷ es) = cond (fits range e) (outFrom range (i + textRoad .width (e .column .kind)) es) (offset (i + 1))
 
--- the figures of a write stand behind its five letters
+-- the figures of a line that was read; only a write has any
+abbrev pub entriesIn : Parsed → List Entry
+entriesIn (Known (Write figures)) = entriesOf figures
+entriesIn (Known (Read group)) = []
+entriesIn Unknown = []
+entriesIn Syntax = []
+
+-- they stand behind the five letters
 abbrev pub outIn : ℕ → Parsed → Place
-outIn range (Known (Write figures)) = outFrom range 5 (entriesOf figures)
-outIn range (Known (Read group)) = nowhere
-outIn range Unknown = nowhere
-outIn range Syntax = nowhere
+outIn range parsed = outFrom range 5 (entriesIn parsed)
 
 -- ---- what is expected there, for people
 
@@ -107,8 +110,8 @@ expectedAt (e ∷ es) (suc i) = expectedAt es i
 
 abbrev pub namedExpects : Named → List ℕ → List Expected
 namedExpects NoGroup l = []
-namedExpects (Is group) l = cond (eqb (getD l 0 0) S) (writeExpected group (length l)) []
+namedExpects (Is group) l = expectedAs (getD l 0 0) group (length l)
 
--- what the line of a known command expects behind its five letters; any other line nothing
+-- what is expected in a line of a known command; its place was found by it (expected-there, in proofs/Placed.antt)
 unfoldable pub expectedIn : List ℕ → List Expected
 expectedIn l = cond (ltb (length l) 5) [] (namedExpects (groupNamed (take 4 (drop 1 l))) l)

@@ -4,7 +4,8 @@ use wire::Named;
 use zone::Group;
 ghost use mathlib.Core.Path.{_≡_};
 ghost use Rattle.line.specs.Inner.{patternAt};
-ghost use Rattle.line.specs.Places.{writeExpected, expectedAt, expectedIn};
+ghost use Rattle.line.specs.Line.{S};
+ghost use Rattle.line.specs.Places.{expectedAs, expectedAt, expectedIn};
 
 pub enum Expects {
     Space,
@@ -27,7 +28,7 @@ fn in_pattern(pattern: &[u8], i: usize) -> Expects
 
 // What a write of `length` bytes to a group expects, i bytes behind its five letters.
 fn write_expects(group: Group, length: usize, i: usize) -> Expects
-    ensures { λ r. ⌜ r ≡ expectedAt (writeExpected group length) i ⌝ }
+    ensures { λ r. ⌜ r ≡ expectedAt (expectedAs S group length) i ⌝ }
 {
     match group {
         Group::Ahue => {
@@ -56,7 +57,7 @@ pub fn expected(line: &[u8], i: usize) -> Expects
             return Expects::Nothing;
         }
     };
-    if line[0] != b'S' {
+    if line[0] == b'L' {
         return Expects::Nothing;
     }
     write_expects(group, line.len(), i)

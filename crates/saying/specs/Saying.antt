@@ -4,17 +4,14 @@ use mathlib.Core.Bool.{cond, _||_}
 use mathlib.Core.List.{List, [], _∷_, _++_, map}
 use lib.ListN.{length, replicate}
 use lib.Dec.{ltb, eqb}
-use Rattle.zone.specs.declared.figures.Command.the-variants.{Read, Write}
 use Rattle.zone.specs.Lists.{within, isZero, ascii}
-use Rattle.zone.specs.Figures.{Entry, entriesOf, fits}
+use Rattle.zone.specs.Figures.{Entry, fits}
 use Rattle.card.specs.declared.records.Record.{Record}
 use Rattle.card.specs.Records.{zoneAt}
-use Rattle.wire.specs.declared.Parsed.{Parsed}
-use Rattle.wire.specs.declared.Parsed.the-variants.{Known, Unknown, Syntax}
 use Rattle.line.specs.declared.expecting.Expects.{Expects}
 use Rattle.line.specs.declared.expecting.Expects.the-variants.{Space, Digit, Nothing}
 use Rattle.line.specs.Line.{digitsFor, lineRead}
-use Rattle.line.specs.Places.{expectedAt, expectedIn}
+use Rattle.line.specs.Places.{entriesIn, expectedAt, expectedIn}
 use Rattle.roads.specs.Calls.{Answered, replyIn, answerText, textPlace}
 use Rattle.texts.specs.Texts.{lineFeed, tab, orDash}
 
@@ -55,12 +52,6 @@ words Nothing = ascii "nothing more"
 unfoldable pub rangeMissed : ℕ → List Entry → List ℕ
 rangeMissed range [] = []
 rangeMissed range (e ∷ es) = cond (fits range e) (rangeMissed range es) (decimalFor (e .column .lowest) ++ (ascii " to " ++ decimalFor (e .column .highest range)))
-
-abbrev pub entriesIn : Parsed → List Entry
-entriesIn (Known (Write figures)) = entriesOf figures
-entriesIn (Known (Read group)) = []
-entriesIn Unknown = []
-entriesIn Syntax = []
 
 -- what is expected at the place; the figures stand behind the five letters
 abbrev pub expectation : ℕ → ℕ → List ℕ → ℕ → List ℕ

@@ -16,8 +16,9 @@ ghost use mathlib.Core.List.{map};
 ghost use Prim.Native.Nat.{_+_, _-_, _≤_};
 ghost use lib.ListN.{length, take};
 ghost use Rattle.zone.specs.Figures.{entriesOf};
+ghost use Rattle.line.specs.Places.{entriesIn};
 ghost use Rattle.saying.specs.Inner.{Appended, rangeIn, shownSeen};
-ghost use Rattle.saying.specs.Saying.{behindBlanks, meaning, printed, rangeMissed, entriesIn, expectation, caretAt, pointed, explained, tooLong, sayOf};
+ghost use Rattle.saying.specs.Saying.{behindBlanks, meaning, printed, rangeMissed, expectation, caretAt, pointed, explained, tooLong, sayOf};
 
 pub struct Shown {
     pub after: Record,

@@ -1,4 +1,4 @@
--- Each return is the definition's case: too short, no known name, no write, a write.
+-- Each return is the definition's case: too short, no known name, a read, a write.
 use mathlib.Core.Path.{sym, _∙_}
 use borrow.Author.Tests.{eq-eqb, ne-eqb, lt-ltb, le-ltb}
 use Rattle.line.specs.Places.{expectedIn}
@@ -18,13 +18,13 @@ returns-3 : tie.Need-returns-3
 unfolding expectedIn
 returns-3 c =
     let p = c .before .before .before in
-    rw (le-ltb _ _ (p .before .before .before .before .if1 .left), sym (p .before .before .named .ensures) ∙ p .g .given .1, ne-eqb _ _ (c .if2 .taken))
+    rw (le-ltb _ _ (p .before .before .before .before .if1 .left), sym (p .before .before .named .ensures) ∙ p .g .given .1, eq-eqb _ _ (c .if2 .taken))
 
 returns-4 : tie.Need-returns-4
 unfolding expectedIn
 returns-4 c =
     let p = c .before .before .before .before in
-    rw (le-ltb _ _ (p .before .before .before .before .if1 .left), sym (p .before .before .named .ensures) ∙ p .g .given .1, eq-eqb _ _ (c .before .if2 .left)) (c .write-expects .ensures)
+    rw (le-ltb _ _ (p .before .before .before .before .if1 .left), sym (p .before .before .named .ensures) ∙ p .g .given .1, ne-eqb _ _ (c .before .if2 .left)) (c .write-expects .ensures)
 
 pub expected-spec : {M : Type 1} → statement M
 expected-spec =
