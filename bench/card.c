@@ -81,7 +81,8 @@ static int figures_sound(const struct zone *z)
            z->state <= ERROR && z->actual <= 999 && z->watch <= 1 && within(z->watch_lower, 5, 99) &&
            within(z->watch_upper, 5, 99) && z->limit <= 999 && z->ref <= 1 && within(z->ref_lower, 5, 100) &&
            within(z->ref_upper, 5, 100) && z->setpoint <= z->range &&
-           (z->form == DEADLINE ? z->time <= 999 : z->form == WINDOW && z->begin <= 998 && within(z->end, 1, 999));
+           (z->form == DEADLINE ? z->time <= 999
+                                : z->form == WINDOW && z->begin <= 998 && within(z->end, 1, 999) && z->begin < z->end);
 }
 
 /* Whether the record is sound: the figures of present zones in range, their addresses different, absent zones empty. */
@@ -171,7 +172,7 @@ static enum answer write_ahue(struct zone *z, enum form form, const struct figur
 {
     if (f->flag > 1 || !within(f->lower, 5, 99) || !within(f->upper, 5, 99))
         return OUT_OF_RANGE;
-    if (form == DEADLINE ? f->time > 999 : f->begin > 998 || !within(f->end, 1, 999))
+    if (form == DEADLINE ? f->time > 999 : f->begin > 998 || !within(f->end, 1, 999) || f->begin >= f->end)
         return OUT_OF_RANGE;
     if (locked(z))
         return LOCKED;

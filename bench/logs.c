@@ -232,6 +232,40 @@ static u32 good_figure(u32 least, u32 most)
     }
 }
 
+/* Puts the lower figure of a window first. */
+static void order_window(struct command *c)
+{
+    u32 begin = c->figure[3], end = c->figure[4];
+
+    if (end < begin) {
+        c->figure[3] = end;
+        c->figure[4] = begin;
+    }
+}
+
+/* How a window's end stands to its begin: mostly above it, and now and then equal, one above, one below, or as drawn. */
+static void relate_window(struct command *c)
+{
+    u32 begin = c->figure[3];
+
+    switch (below(10)) {
+    case 0:
+        c->figure[4] = begin;
+        break;
+    case 1:
+        c->figure[4] = begin + 1;
+        break;
+    case 2:
+        c->figure[4] = begin - (begin > 0);
+        break;
+    case 3:
+        break;
+    default:
+        order_window(c);
+        break;
+    }
+}
+
 /* A command for a zone with that range: its figures in order, one of them at a boundary, or all of them. */
 static void choose_command(struct command *c, u32 range)
 {
@@ -246,6 +280,8 @@ static void choose_command(struct command *c, u32 range)
         if (wild < 5 || (wild < 22 && i == one))
             c->figure[i] = c->group == SOLW && below(2) ? range - 2 + below(5) : PICK(boundaries);
     }
+    if (c->group == AHUE_WINDOW)
+        relate_window(c);
 }
 
 /* ---- the text road */
@@ -730,6 +766,10 @@ static int ordinary_command(struct command *c, u32 zone)
         c->group = SOLW;
     for (u32 i = 0; i < groups[c->group].count; i++)
         c->figure[i] = between(groups[c->group].figure[i].least, groups[c->group].figure[i].most);
+    if (c->group == AHUE_WINDOW) {
+        order_window(c);
+        c->figure[4] += c->figure[3] == c->figure[4];
+    }
     return writes;
 }
 

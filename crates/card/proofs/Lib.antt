@@ -1,9 +1,11 @@
 pub mod Scans
+pub mod Mending
 pub mod Inner
 pub mod Rows
 pub mod Storing
 pub mod Kept
 pub mod Sets
 pub mod Found
+pub mod Repairs
 pub mod Unique
 pub mod Worked

@@ -1,18 +1,19 @@
 -- A sound record in which one zone was stored: when it is sound still. Assumes nothing.
-use Prim.Native.Nat.{ℕ, zero, suc}
+use Prim.Native.Nat.{ℕ, zero, suc, _<_}
 use mathlib.Core.Path.{_≡_, refl, sym, _∙_}
 use mathlib.Core.Bool.{Bool, true, false, not, _&&_, _||_}
 use mathlib.Core.List.{List, [], _∷_}
+use native.Mathlib.Omega.{arith}
 use lib.ListN.{length, getD, set, length-set}
 use lib.Dec.{eqb}
 use borrow.Author.Tests.{eqb-true, eq-eqb, not-true}
 use Rattle.zone.specs.declared.zones.Zone.{Zone}
 use Rattle.zone.specs.Lists.{every}
-use Rattle.zone.specs.Zones.{emptyZone, zoneSound, holds}
+use Rattle.zone.specs.Zones.{emptyZone, zoneOtherwiseSound, windowOpens, zoneSound, holds}
 use Rattle.zone.proofs.Tests.{never, and-l, and-r, both, neither, eqb-sym, or-true}
-use Rattle.zone.proofs.Sound.{empty-sound}
+use Rattle.zone.proofs.Sound.{empty-sound, sound-zone, sound-zone-parts}
 use Rattle.card.specs.declared.records.Record.{Record}
-use Rattle.card.specs.Records.{zoneAt, withZone, heldIn, differ, sound}
+use Rattle.card.specs.Records.{zoneAt, withZone, heldIn, differ, otherwiseSound, sound}
 
 -- ---- the scans after one zone is set
 
@@ -21,10 +22,16 @@ every-set test [] n z s e = refl
 every-set test (x ∷ xs) zero z s e = rw (e, both (test x) (every test xs) s .1)
 every-set test (x ∷ xs) (suc n) z s e = rw (both (test x) (every test xs) s .0, every-set test xs n z (both (test x) (every test xs) s .1) e)
 
-every-at : (test : Zone → Bool) (zs : List Zone) (n : ℕ) (d : Zone) → test d ≡ true → every test zs ≡ true → test (getD zs n d) ≡ true
+pub every-at : (test : Zone → Bool) (zs : List Zone) (n : ℕ) (d : Zone) → test d ≡ true → every test zs ≡ true → test (getD zs n d) ≡ true
 every-at test [] n d e s = e
 every-at test (x ∷ xs) zero d e s = both (test x) (every test xs) s .0
 every-at test (x ∷ xs) (suc n) d e s = every-at test xs n d e (both (test x) (every test xs) s .1)
+
+-- of an element that is there no default is asked
+pub every-in : (test : Zone → Bool) (zs : List Zone) (n : ℕ) (d : Zone) → n < length zs → every test zs ≡ true → test (getD zs n d) ≡ true
+every-in test [] n d h s = absurd (omega arith)
+every-in test (x ∷ xs) zero d h s = both (test x) (every test xs) s .0
+every-in test (x ∷ xs) (suc n) d h s = every-in test xs n d (omega arith) (both (test x) (every test xs) s .1)
 
 held-set : (a : ℕ) (zs : List Zone) (n : ℕ) (z : Zone) → heldIn zs a ≡ false → holds a z ≡ false → heldIn (set zs n z) a ≡ false
 held-set a [] n z h e = refl
@@ -96,15 +103,57 @@ pub record Sound (r : Record) : Type 0 where
   pub zones : every zoneSound (r .zones) ≡ true
   pub addresses : differ (r .zones) ≡ true
 
-pub sound-parts : (r : Record) → sound r ≡ true → Sound r
-unfolding sound
-sound-parts r s =
+-- and of soundness without the rule for windows
+pub record OtherwiseSound (r : Record) : Type 0 where
+  pub sixteen : length (r .zones) ≡ 16
+  pub zones : every zoneOtherwiseSound (r .zones) ≡ true
+  pub addresses : differ (r .zones) ≡ true
+
+pub otherwise-parts : (r : Record) → otherwiseSound r ≡ true → OtherwiseSound r
+unfolding otherwiseSound
+otherwise-parts r s =
     let l : eqb (length (r .zones)) 16 ≡ true = search and-l in
     record { sixteen = eqb-true (length (r .zones)) 16 l; zones = search (and-l, and-r); addresses = search (and-l, and-r) }
 
-sound-whole : (r : Record) → Sound r → sound r ≡ true
+pub otherwise-whole : (r : Record) → OtherwiseSound r → otherwiseSound r ≡ true
+unfolding otherwiseSound
+otherwise-whole r k = rw (eq-eqb (length (r .zones)) 16 (k .sixteen), k .zones, k .addresses)
+
+-- sound is that and the rule
+pub sound-both : (r : Record) → sound r ≡ true → (otherwiseSound r ≡ true) × (every windowOpens (r .zones) ≡ true)
 unfolding sound
-sound-whole r k = rw (eq-eqb (length (r .zones)) 16 (k .sixteen), k .zones, k .addresses)
+sound-both r s = both (otherwiseSound r) (every windowOpens (r .zones)) s
+
+pub both-sound : (r : Record) → otherwiseSound r ≡ true → every windowOpens (r .zones) ≡ true → sound r ≡ true
+unfolding sound
+both-sound r s w = rw (s, w)
+
+-- which every zone keeps if it is sound
+every-sound : (zs : List Zone) → every zoneOtherwiseSound zs ≡ true → every windowOpens zs ≡ true → every zoneSound zs ≡ true
+every-sound [] s w = refl
+every-sound (z ∷ zs) s w =
+    let p = both (zoneOtherwiseSound z) (every zoneOtherwiseSound zs) s in
+    let q = both (windowOpens z) (every windowOpens zs) w in
+    rw (sound-zone z (p .0) (q .0), every-sound zs (p .1) (q .1))
+
+every-otherwise : (zs : List Zone) → every zoneSound zs ≡ true → (every zoneOtherwiseSound zs ≡ true) × (every windowOpens zs ≡ true)
+every-otherwise [] s = (refl, refl)
+every-otherwise (z ∷ zs) s =
+    let p = both (zoneSound z) (every zoneSound zs) s in
+    let here = sound-zone-parts z (p .0) in
+    let rest = every-otherwise zs (p .1) in
+    (rw (here .0, rest .0), rw (here .1, rest .1))
+
+pub sound-parts : (r : Record) → sound r ≡ true → Sound r
+sound-parts r s =
+    let p = sound-both r s in
+    let k = otherwise-parts r (p .0) in
+    record { sixteen = k .sixteen; zones = every-sound (r .zones) (k .zones) (p .1); addresses = k .addresses }
+
+sound-whole : (r : Record) → Sound r → sound r ≡ true
+sound-whole r k =
+    let p = every-otherwise (r .zones) (k .zones) in
+    both-sound r (otherwise-whole r (record { sixteen = k .sixteen; zones = p .0; addresses = k .addresses })) (p .1)
 
 pub zone-sound : (r : Record) (n : ℕ) → sound r ≡ true → zoneSound (zoneAt r n) ≡ true
 zone-sound r n s = every-at zoneSound (r .zones) n emptyZone empty-sound (sound-parts r s .zones)

@@ -13,13 +13,16 @@ use Rattle.card.specs.declared.answers.Answer.the-variants.{Done, Told, 
 use Rattle.card.specs.declared.records.Record.{Record}
 use Rattle.card.specs.declared.records.Found.{Found}
 use Rattle.card.specs.declared.records.Outcome.{Outcome}
+use Rattle.card.specs.declared.records.Repaired.{Repaired}
 use Rattle.card.specs.Answers.{Result, refusalNumber, numberOf, valuesOf, outcomeSeen}
+use Rattle.card.specs.Calls.{Repair}
 use Rattle.card.proofs.records.Record.is_sound.Reads as is-sound
 use Rattle.card.proofs.records.Record.find.Reads as find
 use Rattle.card.proofs.records.Record.add.Reads as add
 use Rattle.card.proofs.records.Record.remove.Reads as remove
 use Rattle.card.proofs.records.Record.report.Reads as report
 use Rattle.card.proofs.records.Record.apply.Reads as apply
+use Rattle.card.proofs.records.Record.repair.Reads as repair
 
 -- ---- number and values tell the answer
 
@@ -90,3 +93,10 @@ find-unique r address f f′ p q = p ∙ sym q
 
 pub is-sound-unique : (r : Record) (t t′ : Bool) → is-sound.Post tt (r, tt) t (r, tt) → is-sound.Post tt (r, tt) t′ (r, tt) → t ≡ t′
 is-sound-unique r t t′ p q = p ∙ sym q
+
+pub repair-unique : (r : Record) (o o′ : Repaired) → repair.Post tt (r, tt) o (r, tt) → repair.Post tt (r, tt) o′ (r, tt) → o ≡ o′
+repair-unique r o o′ p q =
+    let same = p ∙ sym q in
+    let outcome = one-outcome (o .outcome) (o′ .outcome) (ap (λ (x : Repair). x .result) same) in
+    let told = ap (λ (x : Repair). x .told) same in
+    λ i. record { outcome = outcome i; told = told i }

@@ -8,26 +8,27 @@ use Rattle.zone.specs.declared.figures.Figures.{Figures}
 use Rattle.zone.specs.declared.figures.Figures.the-variants.{AhueDeadline, AhueWindow, HzbgLimit, RrueReference, SolwSetpoint}
 use Rattle.zone.specs.declared.figures.Command.the-variants.{Read, Write}
 use Rattle.zone.specs.declared.zones.Watch.the-variants.{Window}
-use Rattle.zone.specs.Figures.{inRange, allZero}
-use Rattle.zone.specs.Zones.{newZone, emptyZone, zoneSound, withWatch}
+use Rattle.zone.specs.Figures.{eachInRange, inRange, allZero}
+use Rattle.zone.specs.Zones.{newZone, emptyZone, zoneOtherwiseSound, zoneSound, withWatch}
 use Rattle.card.specs.declared.records.Record.{Record}
 use Rattle.card.specs.declared.records.Found.the-variants.{At, Nowhere}
-use Rattle.card.specs.Records.{emptyRecord, withZone, differ, sound, findFrom, findOf}
-use Rattle.card.specs.Calls.{addOf, removeOf, reportOf, applyOf}
+use Rattle.card.specs.Records.{emptyRecord, withZone, differ, otherwiseSound, sound, findFrom, findOf}
+use Rattle.card.specs.Calls.{addOf, removeOf, reportOf, applyOf, oldEndsFrom, repairOf}
+use Rattle.card.specs.Rules.{toldIn}
 
 -- ---- soundness
 
 new-zone-sound : zoneSound (newZone 33 300) ≡ true
-unfolding zoneSound inRange
+unfolding zoneSound zoneOtherwiseSound eachInRange
 new-zone-sound = refl
 
 empty-record-sound : sound emptyRecord ≡ true
-unfolding sound differ zoneSound allZero
+unfolding sound otherwiseSound differ zoneOtherwiseSound allZero
 empty-record-sound = refl
 
 -- zone 5 holds address 33 and has 300 degrees
 start : Record
-unfolding addOf sound differ zoneSound inRange allZero
+unfolding addOf sound otherwiseSound differ zoneOtherwiseSound inRange eachInRange allZero
 start = addOf emptyRecord 5 33 300 .after
 
 -- records that are not sound: an absent zone with a window of zeros, one with a new zone's figures, two zones with one address, a setpoint of 301 in 300 degrees
@@ -42,7 +43,7 @@ unsound =
 
 -- one bad zone spoils every call: 2, also where another zone is meant
 spoilt : map (λ r. applyOf r 5 (Read group.Hzbg) .number) unsound ≡ 2 ∷ 2 ∷ 2 ∷ 2 ∷ []
-unfolding unsound start addOf applyOf sound differ zoneSound inRange allZero
+unfolding unsound start addOf applyOf sound otherwiseSound differ zoneOtherwiseSound inRange eachInRange allZero
 spoilt = refl
 
 -- ---- the calls: what is asked beside the number that is given
@@ -73,7 +74,7 @@ adding =
     ∷ []
 
 added : map (λ a. addOf start (a .asks .0) (a .asks .1) (a .asks .2) .number) adding ≡ map (λ a. a .gives) adding
-unfolding adding start addOf sound differ zoneSound inRange allZero
+unfolding adding start addOf sound otherwiseSound differ zoneOtherwiseSound inRange eachInRange allZero
 added = refl
 
 -- zone
@@ -81,7 +82,7 @@ removing : List (Asked ℕ)
 removing = (5 is 0) ∷ (4 is 3) ∷ (16 is 3) ∷ (65541 is 3) ∷ []
 
 removed : map (λ a. removeOf start (a .asks) .number) removing ≡ map (λ a. a .gives) removing
-unfolding removing start addOf removeOf sound differ zoneSound inRange allZero
+unfolding removing start addOf removeOf sound otherwiseSound differ zoneOtherwiseSound inRange eachInRange allZero
 removed = refl
 
 -- zone, state and actual value
@@ -89,7 +90,7 @@ reporting : List (Asked (ℕ × ℕ × ℕ))
 reporting = ((5, 3, 999) is 0) ∷ ((4, 4, 0) is 3) ∷ ((5, 4, 0) is 9) ∷ ((5, 65536, 0) is 9) ∷ ((5, 0, 1000) is 9) ∷ []
 
 reported : map (λ a. reportOf start (a .asks .0) (a .asks .1) (a .asks .2) .number) reporting ≡ map (λ a. a .gives) reporting
-unfolding reporting start addOf reportOf sound differ zoneSound inRange allZero
+unfolding reporting start addOf reportOf sound otherwiseSound differ zoneOtherwiseSound inRange eachInRange allZero
 reported = refl
 
 deadlineOf : ℕ → ℕ → Figures
@@ -117,21 +118,65 @@ writing =
     ∷ ((0, deadlineOf 5 99) is 0)
     ∷ ((0, deadlineOf 4 99) is 9)
     ∷ ((0, deadlineOf 5 100) is 9)
-    ∷ ((0, windowOf 998 1) is 0)
+    ∷ ((0, windowOf 0 999) is 0)
+    ∷ ((0, windowOf 0 1) is 0)
+    ∷ ((0, windowOf 998 999) is 0)
     ∷ ((0, windowOf 999 999) is 9)
     ∷ ((0, windowOf 0 0) is 9)
+    ∷ ((0, windowOf 0 1000) is 9)
+    ∷ ((0, windowOf 500 200) is 9)
+    ∷ ((0, windowOf 200 200) is 9)
+    ∷ ((0, windowOf 200 201) is 0)
+    ∷ ((0, windowOf 998 1) is 9)
+    ∷ ((1, windowOf 500 200) is 9)
+    ∷ ((1, windowOf 200 500) is 10)
     ∷ []
 
 written : map (λ a. applyOf (reportOf start 5 (a .asks .0) 20 .after) 5 (Write (a .asks .1)) .number) writing ≡ map (λ a. a .gives) writing
-unfolding writing deadlineOf windowOf start addOf reportOf applyOf sound differ zoneSound inRange allZero
+unfolding writing deadlineOf windowOf start addOf reportOf applyOf sound otherwiseSound differ zoneOtherwiseSound inRange eachInRange allZero
 written = refl
 
 -- AHUE is read in the form last written
-last-form : applyOf (applyOf (applyOf start 5 (Write (windowOf 50 20)) .after) 5 (Write (deadlineOf 5 99)) .after) 5 (Read group.Ahue) .values ≡ deadlineOf 5 99 ∷ []
-unfolding deadlineOf windowOf start addOf applyOf sound differ zoneSound inRange allZero
+last-form : applyOf (applyOf (applyOf start 5 (Write (windowOf 20 50)) .after) 5 (Write (deadlineOf 5 99)) .after) 5 (Read group.Ahue) .values ≡ deadlineOf 5 99 ∷ []
+unfolding deadlineOf windowOf start addOf applyOf sound otherwiseSound differ zoneOtherwiseSound inRange eachInRange allZero
 last-form = refl
 
 -- the address is found at its zone; an absent zone holds none, not even 0
 found : map (findOf start) (33 ∷ 34 ∷ 0 ∷ 65569 ∷ []) ≡ At 5 ∷ Nowhere ∷ Nowhere ∷ Nowhere ∷ []
-unfolding start addOf sound differ zoneSound inRange allZero findFrom
+unfolding start addOf sound otherwiseSound differ zoneOtherwiseSound inRange eachInRange allZero findFrom
 found = refl
+
+-- ---- a repair (document 02, Req 06)
+
+-- zone 2 with that window
+withWindow : Record → ℕ → ℕ → Record
+withWindow r begin end = withZone r 2 (withWatch (newZone 34 500) (Window (record { flag = 1; lower = 10; upper = 10; begin = begin; end = end })))
+
+-- "from 50.0 to 20.0 seconds"; equal figures; the widest that can be mended; neighbouring figures, which are no fault; and a begin and an end out of their own ranges, which are another
+repairing : List (Asked (ℕ × ℕ))
+repairing = ((500, 200) is 0) ∷ ((200, 200) is 0) ∷ ((998, 1) is 0) ∷ ((200, 201) is 0) ∷ ((999, 999) is 2) ∷ ((5, 0) is 2) ∷ []
+
+repaired-by-number : map (λ a. repairOf (withWindow start (a .asks .0) (a .asks .1)) .result .number) repairing ≡ map (λ a. a .gives) repairing
+unfolding repairing withWindow start addOf repairOf sound otherwiseSound differ zoneOtherwiseSound inRange eachInRange allZero
+repaired-by-number = refl
+
+-- what they tell, and the end afterwards, which is begin + 1 where something was told
+ends-told : map (λ a. toldIn (repairOf (withWindow start (a .asks .0) (a .asks .1)) .told)) repairing
+    ≡ (record { zone = 2; end = 200 } ∷ []) ∷ (record { zone = 2; end = 200 } ∷ []) ∷ (record { zone = 2; end = 1 } ∷ []) ∷ [] ∷ [] ∷ [] ∷ []
+unfolding repairing withWindow start addOf repairOf oldEndsFrom sound otherwiseSound differ zoneOtherwiseSound inRange eachInRange allZero
+ends-told = refl
+
+repaired-records : map (λ a. repairOf (withWindow start (a .asks .0) (a .asks .1)) .result .after) repairing
+    ≡ withWindow start 500 501 ∷ withWindow start 200 201 ∷ withWindow start 998 999 ∷ withWindow start 200 201 ∷ withWindow start 999 999 ∷ withWindow start 5 0 ∷ []
+unfolding repairing withWindow start addOf repairOf sound otherwiseSound differ zoneOtherwiseSound inRange eachInRange allZero
+repaired-records = refl
+
+-- another fault anywhere: 2
+spoilt-too : map (λ r. repairOf r .result .number) unsound ≡ 2 ∷ 2 ∷ 2 ∷ 2 ∷ []
+unfolding unsound start addOf repairOf sound otherwiseSound differ zoneOtherwiseSound inRange eachInRange allZero
+spoilt-too = refl
+
+-- such a window spoils every other call, a read of another zone too
+shut-spoils : map (λ a. applyOf (withWindow start (a .asks .0) (a .asks .1)) 5 (Read group.Hzbg) .number) repairing ≡ 2 ∷ 2 ∷ 2 ∷ 0 ∷ 2 ∷ 2 ∷ []
+unfolding repairing withWindow start addOf applyOf sound otherwiseSound differ zoneOtherwiseSound inRange eachInRange allZero
+shut-spoils = refl

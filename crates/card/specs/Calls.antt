@@ -1,18 +1,22 @@
 -- What each call comes to, for every record, sound or not. Its refusals stand in document 01's order.
-use Prim.Native.Nat.{ℕ}
-use mathlib.Core.Bool.{Bool, not, _&&_}
-use mathlib.Core.List.{List, [], _∷_}
+use Prim.Native.Nat.{ℕ, suc, _-_}
+use mathlib.Core.Bool.{Bool, cond, not, _&&_}
+use mathlib.Core.List.{List, [], _∷_, _++_, map}
+use lib.ListN.{length, replicate}
 use lib.Dec.{leb}
 use Rattle.zone.specs.declared.figures.Figures.{Figures}
 use Rattle.zone.specs.declared.figures.Command.{Command}
 use Rattle.zone.specs.declared.figures.Command.the-variants.{Read, Write}
 use Rattle.zone.specs.declared.zones.Zone.{Zone}
 use Rattle.zone.specs.Figures.{groupOf, inRange}
-use Rattle.zone.specs.Zones.{newZone, emptyZone, figuresOf, addressInRange, rangeKnown, actualInRange, stateNumbered, withStatus, withFigures, locks}
+use Rattle.zone.specs.Zones.{newZone, emptyZone, figuresOf, addressInRange, rangeKnown, actualInRange, stateNumbered, withStatus, withFigures, locks, windowOpens, mended, endOf}
 use Rattle.card.specs.declared.records.Record.{Record}
-use Rattle.card.specs.Answers.{Result}
+use Rattle.card.specs.declared.records.OldEnd.{OldEnd}
+use Rattle.card.specs.declared.records.OldEnds.{OldEnds}
+use Rattle.card.specs.declared.records.Repaired.{Repaired}
+use Rattle.card.specs.Answers.{Result, outcomeSeen}
 use Rattle.card.specs.Refusals.{Row, _gives_, settled}
-use Rattle.card.specs.Records.{zoneAt, withZone, heldIn, sound, noZone}
+use Rattle.card.specs.Records.{zoneAt, withZone, heldIn, otherwiseSound, sound, noZone}
 
 -- what a zone decides of a call: its own refusals and, where none applies, the values that are told and the zone afterwards
 pub record Judgement : Type 0 where
@@ -79,3 +83,37 @@ commandAt z (Write figures) = writeAt z figures
 
 unfoldable pub applyOf : Record → ℕ → Command → Result Record
 applyOf r n command = atZone r n (commandAt (zoneAt r n) command)
+
+-- ---- "For cards in the field a repair call" (document 02, Req 06): in every state, and without arguments
+
+-- "Any other unsoundness gives 2"
+abbrev pub repairRows : Record → List Row
+repairRows r = (not (otherwiseSound r) gives 2) ∷ []
+
+-- it "sets the end to begin + 1 in each such zone .. and touches nothing else": mended leaves a zone without such a window as it is
+abbrev pub allMended : Record → Record
+allMended r = record { zones = map mended (r .zones) }
+
+-- it "tells those zones and their old ends": in rising order, here from zone n on
+unfoldable pub oldEndsFrom : ℕ → List Zone → List OldEnd
+oldEndsFrom n [] = []
+oldEndsFrom n (z ∷ zones) = cond (windowOpens z) (oldEndsFrom (suc n) zones) (record { zone = n; end = endOf (z .watch) } ∷ oldEndsFrom (suc n) zones)
+
+-- the sixteen places that they are told in: how many are told, and zeros behind these
+abbrev pub inPlaces : List OldEnd → OldEnds
+inPlaces told = record { count = length told; ends = told ++ replicate (16 - length told) (record { zone = 0; end = 0 }) }
+
+-- what a repair comes to: what every call comes to, and what it tells
+pub record Repair : Type 0 where
+  pub result : Result Record
+  pub told : OldEnds
+
+abbrev pub repairSeen : Repaired → Repair
+repairSeen o = record { result = outcomeSeen (o .outcome); told = o .told }
+
+-- a refusal tells nothing
+unfoldable pub repairOf : Record → Repair
+repairOf r = record {
+  result = settled r (repairRows r) [] (allMended r);
+  told = inPlaces (cond (otherwiseSound r) (oldEndsFrom 0 (r .zones)) []);
+}

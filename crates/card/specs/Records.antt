@@ -6,7 +6,7 @@ use lib.ListN.{length, getD, set, replicate}
 use lib.Dec.{leb, eqb}
 use Rattle.zone.specs.declared.zones.Zone.{Zone}
 use Rattle.zone.specs.Lists.{every, some}
-use Rattle.zone.specs.Zones.{emptyZone, zoneSound, holds}
+use Rattle.zone.specs.Zones.{emptyZone, zoneOtherwiseSound, windowOpens, holds}
 use Rattle.card.specs.declared.records.Record.{Record}
 use Rattle.card.specs.declared.records.Found.{Found}
 use Rattle.card.specs.declared.records.Found.the-variants.{At, Nowhere}
@@ -36,9 +36,14 @@ differ (z ∷ zones) = not (z .present && heldIn zones (z .address)) && differ z
 abbrev pub sixteen : Record → Bool
 sixteen r = eqb (length (r .zones)) 16
 
--- "A record is sound if every figure of every present zone lies in its range, addresses differ and absent zones are empty"
+-- "A record is sound if every figure of every present zone lies in its range, addresses differ and absent zones are empty": document 01's sentence, each figure judged by its own range.
+-- What fails it is the "other unsoundness" of document 02, Req 06
+unfoldable pub otherwiseSound : Record → Bool
+otherwiseSound r = sixteen r && (every zoneOtherwiseSound (r .zones) && differ (r .zones))
+
+-- Sound is that and the rule of Req 06: "A window with begin not below end .. is not sound"
 unfoldable pub sound : Record → Bool
-sound r = sixteen r && (every zoneSound (r .zones) && differ (r .zones))
+sound r = otherwiseSound r && every windowOpens (r .zones)
 
 -- "An address is looked up from zone 0 upward; the search ends at the first zone that holds it"
 unfoldable pub findFrom : ℕ → List Zone → ℕ → Found

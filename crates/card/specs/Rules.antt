@@ -5,12 +5,17 @@ use mathlib.Core.Logic.{_↔_, _⊎_}
 use mathlib.Core.Bool.{true, false}
 use mathlib.Core.List.{List, [], _∷_, map}
 use lib.ListN.{length, getD, take}
-use Rattle.zone.specs.Zones.{emptyZone, addressInRange, rangeKnown, holds}
+use Rattle.zone.specs.declared.figures.Figures.the-variants.{AhueWindow}
+use Rattle.zone.specs.declared.figures.WindowFigures.{WindowFigures}
+use Rattle.zone.specs.Zones.{emptyZone, addressInRange, rangeKnown, holds, opened}
+use Rattle.zone.specs.Rules.{SetsFigures, Shut}
 use Rattle.card.specs.declared.records.Record.{Record}
+use Rattle.card.specs.declared.records.OldEnd.{OldEnd}
+use Rattle.card.specs.declared.records.OldEnds.{OldEnds}
 use Rattle.card.specs.Answers.{Result}
 use Rattle.card.specs.Refusals.{Row, _gives_}
 use Rattle.card.specs.Records.{zoneAt, heldIn, sound}
-use Rattle.card.specs.Calls.{addOf}
+use Rattle.card.specs.Calls.{addOf, inPlaces, Repair}
 
 -- What every call on zone n of r keeps, whatever it answers.
 -- add-keeps, remove-keeps, report-keeps and apply-keeps, in proofs/Kept.antt
@@ -27,7 +32,7 @@ abbrev pub rowAt : List Row → ℕ → Row
 rowAt rows i = getD rows i (false gives 0)
 
 -- "Given exactly when".
--- add-exactly, remove-exactly, report-exactly and apply-exactly, in proofs/Kept.antt
+-- add-exactly, remove-exactly, report-exactly and apply-exactly, in proofs/Kept.antt; repair-exactly, in proofs/Repairs.antt
 pub record ExactlyWhen (rows : List Row) (number : ℕ) : Type 0 where
   -- a row's number is given if and only if its test holds and no earlier one does
   pub refused : (i : ℕ) → i < length rows → (number ≡ rowAt rows i .number) ↔ ((rowAt rows i .test ≡ true) × ((j : ℕ) → j < i → rowAt rows j .test ≡ false))
@@ -56,8 +61,12 @@ reportOrder = 2 ∷ 3 ∷ 9 ∷ []
 abbrev pub applyOrder : List ℕ
 applyOrder = 2 ∷ 3 ∷ 9 ∷ 10 ∷ []
 
+-- document 02, Req 06: "Any other unsoundness gives 2"
+abbrev pub repairOrder : List ℕ
+repairOrder = 2 ∷ []
+
 -- The refusals stand in the printed order: all of it, or its beginning.
--- add-order, remove-order, report-order, apply-order and, of a write, write-order, in proofs/Kept.antt
+-- add-order, remove-order, report-order, apply-order and, of a write, write-order, in proofs/Kept.antt; repair-order, in proofs/Repairs.antt
 abbrev pub InOrder : List Row → List ℕ → Type 0
 InOrder rows printed = numbersIn rows ≡ take (length rows) printed
 
@@ -77,3 +86,37 @@ pub record Frees (r : Record) (n : ℕ) (after : Record) : Type 0 where
 pub record FirstToHold (r : Record) (address n : ℕ) : Type 0 where
   pub here : holds address (zoneAt r n) ≡ true
   pub earlier : (m : ℕ) → m < n → holds address (zoneAt r m) ≡ false
+
+-- ---- a repair (document 02, Req 06)
+
+-- what is told
+abbrev pub toldIn : OldEnds → List OldEnd
+toldIn told = take (told .count) (told .ends)
+
+-- zone n is told, with that end
+abbrev pub Tells : List OldEnd → ℕ → ℕ → Type 0
+Tells [] n end = ⊥
+Tells (t ∷ ts) n end = (t ≡ record { zone = n; end = end }) ⊎ Tells ts n end
+
+-- the zones that are told rise
+abbrev pub Rising : List OldEnd → Type 0
+Rising [] = Unit {0}
+Rising (t ∷ ts) = ((n end : ℕ) → Tells ts n end → t .zone < n) × Rising ts
+
+-- What a done repair of r does, zone by zone.
+-- repair-mends, in proofs/Repairs.antt
+pub record Mends (r : Record) (o : Repair) : Type 0 where
+  -- it "sets the end to begin + 1 in each such zone", whose other figures and groups, status, address and range stay
+  pub ends : (n : ℕ) (window : WindowFigures) → Shut (zoneAt r n) window → SetsFigures (zoneAt r n) (AhueWindow (opened window)) (zoneAt (o .result .after) n)
+  -- "and touches nothing else"
+  pub others : (n : ℕ) → ((window : WindowFigures) → Shut (zoneAt r n) window → ⊥) → zoneAt (o .result .after) n ≡ zoneAt r n
+  -- it "tells those zones and their old ends", and no others
+  pub told : (n end : ℕ) → Tells (toldIn (o .told)) n end ↔ ((window : WindowFigures) × Shut (zoneAt r n) window × (window .end ≡ end))
+  pub rising : Rising (toldIn (o .told))
+  -- what is handed back is sound
+  pub sound-after : sound (o .result .after) ≡ true
+
+-- A repair that leaves a record as it is, with that number, and tells nothing.
+-- repair-refused: so does one that is refused, with 2; repair-of-sound: so does that of a sound record, done; repair-again: and so does a second one
+abbrev pub leaves : Record → ℕ → Repair
+leaves r number = record { result = record { number = number; values = []; after = r }; told = inPlaces [] }

@@ -16,5 +16,8 @@ pub use judgements::added;
 pub use judgements::heard;
 pub use judgements::reported;
 pub use records::Found;
+pub use records::OldEnd;
+pub use records::OldEnds;
 pub use records::Outcome;
 pub use records::Record;
+pub use records::Repaired;

@@ -9,12 +9,13 @@ use crate::judgements::reported;
 use zone::Command;
 use zone::Zone;
 ghost use mathlib.Core.Path.{_≡_};
+ghost use mathlib.Core.Bool.{true};
 ghost use Prim.Native.Nat.{_<_};
 ghost use Rattle.zone.specs.Lists.{every, some};
-ghost use Rattle.zone.specs.Zones.{zoneSound, holds};
+ghost use Rattle.zone.specs.Zones.{zoneOtherwiseSound, windowOpens, mended, holds};
 ghost use Rattle.card.specs.Answers.{outcomeSeen};
-ghost use Rattle.card.specs.Records.{emptyRecord, zoneAt, differ, sound, findOf};
-ghost use Rattle.card.specs.Calls.{addOf, removeOf, reportOf, applyOf};
+ghost use Rattle.card.specs.Records.{emptyRecord, zoneAt, differ, otherwiseSound, sound, findOf};
+ghost use Rattle.card.specs.Calls.{addOf, removeOf, reportOf, applyOf, allMended, oldEndsFrom, inPlaces, repairSeen, repairOf};
 ghost use Rattle.card.specs.Inner.{rangeAt, reachOf, verdictSeen, stored, askOf};
 
 pub struct Record {
@@ -38,6 +39,23 @@ pub struct Outcome {
     pub after: Record,
 }
 
+// A zone whose window did not open before it closed, and the end that it had.
+pub struct OldEnd {
+    pub zone: usize,
+    pub end: u32,
+}
+
+// As many of the sixteen are told as `count` says, in rising order of the zones; the others are zeros.
+pub struct OldEnds {
+    pub count: usize,
+    pub ends: [OldEnd; 16],
+}
+
+pub struct Repaired {
+    pub outcome: Outcome,
+    pub told: OldEnds,
+}
+
 impl Record {
     // A record of absent zones.
     pub fn empty() -> Record
@@ -48,21 +66,42 @@ impl Record {
         }
     }
 
-    // Every figure of every present zone lies in its range, addresses differ and absent zones are empty.
+    // Every figure of every present zone lies in its range, every window opens before it closes,
+    // addresses differ and absent zones are empty.
     pub fn is_sound(self) -> bool
         ensures { λ r. ⌜ r ≡ sound self ⌝ }
     {
-        self.zones_sound() & self.addresses_differ()
+        self.is_otherwise_sound() & self.windows_open()
     }
 
-    fn zones_sound(self) -> bool
-        ensures { λ r. ⌜ r ≡ every zoneSound (self .zones) ⌝ }
+    // Soundness without the rule for windows.
+    fn is_otherwise_sound(self) -> bool
+        ensures { λ r. ⌜ r ≡ otherwiseSound self ⌝ }
+    {
+        self.zones_otherwise_sound() & self.addresses_differ()
+    }
+
+    fn zones_otherwise_sound(self) -> bool
+        ensures { λ r. ⌜ r ≡ every zoneOtherwiseSound (self .zones) ⌝ }
     {
         let mut ok = true;
         let mut i: usize = 0;
         while i < 16 {
             let z = self.zones[i];
-            ok = ok & z.is_sound();
+            ok = ok & z.is_otherwise_sound();
+            i += 1;
+        }
+        ok
+    }
+
+    fn windows_open(self) -> bool
+        ensures { λ r. ⌜ r ≡ every windowOpens (self .zones) ⌝ }
+    {
+        let mut ok = true;
+        let mut i: usize = 0;
+        while i < 16 {
+            let z = self.zones[i];
+            ok = ok & z.window_opens();
             i += 1;
         }
         ok
@@ -153,7 +192,7 @@ impl Record {
         }
     }
 
-    // The one place where a zone of the record is stored to.
+    // The one place where a call at a zone stores to the record.
     fn changed(mut self, zone: usize, verdict: Verdict) -> Outcome
         requires { ⌜ zone < 16 ⌝ }
         ensures { λ r. ⌜ outcomeSeen r ≡ stored self zone (verdictSeen (zoneAt self zone) verdict) ⌝ }
@@ -216,6 +255,68 @@ impl Record {
         match self.reach(zone) {
             Reached::Stopped(why) => self.refused(why),
             Reached::There(z) => self.changed(zone, heard(z, asked)),
+        }
+    }
+
+    // The zones whose window does not open before it closes, with its end.
+    fn old_ends(self) -> OldEnds
+        ensures { λ r. ⌜ r ≡ inPlaces (oldEndsFrom 0 (self .zones)) ⌝ }
+    {
+        let mut ends = [OldEnd { zone: 0, end: 0 }; 16];
+        let mut count: usize = 0;
+        let mut i: usize = 0;
+        while i < 16 {
+            let z = self.zones[i];
+            if !z.window_opens() {
+                ends[count] = OldEnd {
+                    zone: i,
+                    end: z.window_end(),
+                };
+                count += 1;
+            }
+            i += 1;
+        }
+        OldEnds {
+            count: count,
+            ends: ends,
+        }
+    }
+
+    // Each zone mended.
+    fn all_mended(self) -> Record
+        requires { ⌜ every zoneOtherwiseSound (self .zones) ≡ true ⌝ }
+        ensures { λ r. ⌜ r ≡ allMended self ⌝ }
+    {
+        let mut after = self;
+        let mut i: usize = 0;
+        while i < 16 {
+            let z = self.zones[i];
+            after.zones[i] = z.mended();
+            i += 1;
+        }
+        after
+    }
+
+    // The end of each window that does not open before it closes is set to its begin + 1, if the
+    // record has no other fault.
+    pub fn repair(self) -> Repaired
+        ensures { λ r. ⌜ repairSeen r ≡ repairOf self ⌝ }
+    {
+        if !self.is_otherwise_sound() {
+            return Repaired {
+                outcome: self.refused(Refusal::NotSound),
+                told: OldEnds {
+                    count: 0,
+                    ends: [OldEnd { zone: 0, end: 0 }; 16],
+                },
+            };
+        }
+        Repaired {
+            outcome: Outcome {
+                answer: Answer::Done,
+                after: self.all_mended(),
+            },
+            told: self.old_ends(),
         }
     }
 }

@@ -1,6 +1,6 @@
 -- Number and place go together: a line is a syntax error exactly where it has the place of one, and a figure is out of range exactly where there is a first one. Both places lie behind the five letters and within the line. Assumes nothing.
 use Prim.Native.Nat.{ℕ, _+_, _-_, _≤_, _<_}
-use mathlib.Core.Path.{_≡_, refl, ap, _∙_}
+use mathlib.Core.Path.{_≡_, refl, sym, ap, _∙_}
 use mathlib.Core.Logic.{_↔_}
 use mathlib.Core.Bool.{Bool, true, false, cond, _&&_, _||_}
 use mathlib.Core.List.{List, [], _∷_, _++_, append-assoc}
@@ -12,10 +12,12 @@ use borrow.Author.Tests.{ltb-true, ltb-false, eq-eqb, ne-eqb, eqb-true, eqb-fals
 use Rattle.zone.specs.declared.figures.Group.{Group}
 use Rattle.zone.specs.declared.figures.Group.the-variants.{Ahue, Hzbg, Rrue, Solw}
 use Rattle.zone.specs.declared.figures.Figures.{Figures}
+use Rattle.zone.specs.declared.figures.Figures.the-variants.{AhueDeadline, AhueWindow, HzbgLimit, RrueReference, SolwSetpoint}
 use Rattle.zone.specs.declared.figures.Command.the-variants.{Read, Write}
-use Rattle.zone.specs.Table.{Kind, flag, limit, time, digits, Form, deadline, window, hzbg, rrue, solw, layout, formsOf, name}
+use Rattle.zone.specs.Table.{Kind, flag, limit, time, digits, setpoint, Form, deadline, window, hzbg, rrue, solw, layout, formsOf, name}
 use Rattle.zone.specs.Lists.{every, total}
-use Rattle.zone.specs.Figures.{Entry, groupOf, made, entriesOf, fits, inRange}
+use Rattle.zone.specs.Figures.{Entry, groupOf, made, entriesOf, fits, eachInRange, opens, inRange}
+use Rattle.zone.proofs.Tests.{never}
 use Rattle.wire.specs.declared.Named.{Named}
 use Rattle.wire.specs.declared.Named.the-variants.{Is, NoGroup}
 use Rattle.wire.specs.declared.Parsed.{Parsed}
@@ -24,8 +26,8 @@ use Rattle.wire.specs.Road.{entryBytes, inOrder, figureBytes, lengthOf, none, n
 use Rattle.wire.proofs.Choices.{by-cond}
 use Rattle.line.specs.declared.reading.Reading.{Reading}
 use Rattle.line.specs.Line.{digitsFor, L, S, textRoad, lineOf, groupNamed, namedRead, lineRead}
-use Rattle.line.specs.Places.{Place, nowhere, offset, told, Expected, wrongFrom, figuresExpected, formFor, meets, expectedAs, wrongAs, namedWrong, wrongIn, outFrom, namedExpects, expectedIn}
-use Rattle.line.specs.Rules.{SyntaxHasPlace, SyntaxPlaceWithin, RangeHasPlace, RangePlaceWithin, ExpectedThere}
+use Rattle.line.specs.Places.{Place, nowhere, offset, told, Expected, wrongFrom, figuresExpected, formFor, meets, expectedAs, wrongAs, namedWrong, wrongIn, outFrom, endFigure, outOf, namedExpects, expectedIn}
+use Rattle.line.specs.Rules.{SyntaxHasPlace, SyntaxPlaceWithin, RangeHasPlace, BehindSpace, RangePlaceWithin, ExpectedThere}
 use Rattle.line.specs.Inner.{Walked, all, wrong, walk, readBy, formWalked}
 use Rattle.line.proofs.DigitRule.{digits-length}
 use Rattle.line.proofs.Round.{line-only}
@@ -191,8 +193,14 @@ out-when range i (e ∷ es) = by-fit (fits range e) (out-when range (i + textRoa
     by-fit false more = ((λ z. (i + 1, refl)), (λ p. refl))
 
 pub range-has-place : RangeHasPlace
-unfolding inRange
-range-has-place range figures = out-when range 5 (entriesOf figures)
+unfolding inRange eachInRange outOf
+range-has-place range figures = by-tests (every (fits range) (entriesOf figures)) (opens figures) (out-when range 5 (entriesOf figures))
+  where
+    by-tests : (t u : Bool) → (t ≡ false) ↔ ((n : ℕ) × (outFrom range 5 (entriesOf figures) ≡ offset n))
+        → ((t && u) ≡ false) ↔ ((n : ℕ) × (cond t (cond u nowhere (offset endFigure)) (outFrom range 5 (entriesOf figures)) ≡ offset n))
+    by-tests false u own = own
+    by-tests true true own = ((λ e. never (sym e)), (λ p. no-place (p .1)))
+    by-tests true false own = ((λ e. (endFigure, refl)), (λ p. refl))
 
 out-within : (range i : ℕ) (es : List Entry) (n : ℕ) → outFrom range i es ≡ offset n → (i < n) × (n < i + total (λ e. textRoad .width (e .column .kind)) es)
 unfolding outFrom
@@ -246,15 +254,47 @@ write-space range figures n h = space-before range (S ∷ name (groupOf figures)
     by-group Rrue k = k
     by-group Solw k = k
 
-pub range-place-within : RangePlaceWithin
-range-place-within l range figures n e o =
+-- the last figure of a row has a space before it too
+last-space : (pre : List ℕ) (es : List Entry) (e : Entry) → getD (pre ++ inOrder textRoad (es ++ (e ∷ []))) (length pre + total (λ e. textRoad .width (e .column .kind)) es) 0 ≡ 32
+last-space pre [] e =
+    let m : length pre + 0 ≡ length pre = omega arith in
+    rw m (getD-append-seam pre 32 (digitsFor (digits (e .column .kind)) (e .number) ++ []) 0)
+last-space pre (x ∷ es) e =
+    let l : length (pre ++ entryBytes textRoad x) ≡ length pre + textRoad .width (x .column .kind) = rw (length-append, digits-length (digits (x .column .kind)) (x .number)) (omega arith) in
+    let m : length pre + (textRoad .width (x .column .kind) + total (λ e. textRoad .width (e .column .kind)) es) ≡ length (pre ++ entryBytes textRoad x) + total (λ e. textRoad .width (e .column .kind)) es = omega (arith, l) in
+    rw (m, ← append-assoc pre (entryBytes textRoad x) (inOrder textRoad (es ++ (e ∷ [])))) (last-space (pre ++ entryBytes textRoad x) es e)
+
+-- where a row breaks its rule it is a window, whose end is the last figure
+end-within : (figures : Figures) → opens figures ≡ false → BehindSpace (lineOf (Write figures)) endFigure
+unfolding lineOf
+end-within (AhueWindow f) e = record { behind-letters = omega arith; within-line = omega (arith, write-length (AhueWindow f)); space-before = space }
+  where
+    space : getD (lineOf (Write (AhueWindow f))) 19 0 ≡ 32
+    space = last-space (S ∷ name Ahue) (take 4 (entriesOf (AhueWindow f))) (getD (entriesOf (AhueWindow f)) 4 (record { column = setpoint; number = 0 }))
+end-within (AhueDeadline f) e = never (sym e)
+end-within (HzbgLimit f) e = never (sym e)
+end-within (RrueReference f) e = never (sym e)
+end-within (SolwSetpoint f) e = never (sym e)
+
+figure-within : (range : ℕ) (figures : Figures) (n : ℕ) → outFrom range 5 (entriesOf figures) ≡ offset n → BehindSpace (lineOf (Write figures)) n
+figure-within range figures n o =
     let w = out-within range 5 (entriesOf figures) n o in
-    let is = line-only l (Write figures) e .line-is in
-    record {
-      behind-letters = w .0;
-      within-line = omega (arith, w .1, ap length is, write-length figures);
-      space-before = ap (λ (k : List ℕ). getD k (n - 1) 0) is ∙ write-space range figures n o;
-    }
+    record { behind-letters = w .0; within-line = omega (arith, w .1, write-length figures); space-before = write-space range figures n o }
+
+write-within : (range : ℕ) (figures : Figures) (n : ℕ) → outOf range figures ≡ offset n → BehindSpace (lineOf (Write figures)) n
+unfolding outOf
+write-within range figures n o =
+    by-cond (eachInRange range figures) o
+    (λ t k.
+    by-cond (opens figures) k
+    (λ u h. no-place h)
+    (λ u h.
+    let m : endFigure ≡ n = cc in
+    rw (← m) (end-within figures u)))
+    (λ t k. figure-within range figures n k)
+
+pub range-place-within : RangePlaceWithin
+range-place-within l range figures n e o = rw (line-only l (Write figures) e .line-is) (write-within range figures n o)
 
 -- ---- what is expected in a wrong line
 

@@ -1,19 +1,21 @@
 -- Where a line is wrong: document 02, Req 04, "Say where the line is wrong". An offset counts the line's bytes from 0.
-use Prim.Native.Nat.{ℕ, zero, suc, _+_}
+use Prim.Native.Nat.{ℕ, zero, suc, _+_, _-_}
 use mathlib.Core.Bool.{Bool, cond, _||_}
 use mathlib.Core.List.{List, [], _∷_, _++_}
 use lib.ListN.{length, getD, take, drop}
 use lib.Dec.{ltb, eqb}
 use Rattle.zone.specs.declared.figures.Group.{Group}
 use Rattle.zone.specs.declared.figures.Group.the-variants.{Ahue, Hzbg, Rrue, Solw}
+use Rattle.zone.specs.declared.figures.Figures.{Figures}
 use Rattle.zone.specs.declared.figures.Command.the-variants.{Read, Write}
 use Rattle.zone.specs.Lists.{within}
-use Rattle.zone.specs.Table.{Column, digits, Form, deadline, window, hzbg, rrue, solw, layout}
-use Rattle.zone.specs.Figures.{Entry, entriesOf, fits}
+use Rattle.zone.specs.Table.{time, Column, digits, Form, deadline, window, hzbg, rrue, solw, layout}
+use Rattle.zone.specs.Figures.{Entry, entriesOf, fits, eachInRange, opens}
 use Rattle.wire.specs.declared.Named.{Named}
 use Rattle.wire.specs.declared.Named.the-variants.{Is, NoGroup}
 use Rattle.wire.specs.declared.Parsed.{Parsed}
 use Rattle.wire.specs.declared.Parsed.the-variants.{Known, Unknown, Syntax}
+use Rattle.wire.specs.Road.{lengthOf}
 use Rattle.line.specs.declared.expecting.Expects.{Expects}
 use Rattle.line.specs.declared.expecting.Expects.the-variants.{Space, Digit, Nothing}
 use Rattle.line.specs.Line.{L, S, textRoad, groupNamed}
@@ -88,16 +90,23 @@ unfoldable pub outFrom : ℕ → ℕ → List Entry → Place
 outFrom range i [] = nowhere
 outFrom range i (e ∷ es) = cond (fits range e) (outFrom range (i + textRoad .width (e .column .kind)) es) (offset (i + 1))
 
--- the figures of a line that was read; only a write has any
-abbrev pub entriesIn : Parsed → List Entry
-entriesIn (Known (Write figures)) = entriesOf figures
-entriesIn (Known (Read group)) = []
-entriesIn Unknown = []
-entriesIn Syntax = []
+-- where a window's end starts: its three digits are the last of the line
+abbrev pub endFigure : ℕ
+endFigure = lengthOf textRoad window - digits time
 
--- they stand behind the five letters
+-- a window whose begin is not below its end is "placed at the end figure if each figure is in its own range" (document 02, Req 06); else it is the first figure out of its own range. The figures stand behind the five letters
+unfoldable pub outOf : ℕ → Figures → Place
+outOf range figures = cond (eachInRange range figures) (cond (opens figures) nowhere (offset endFigure)) (outFrom range 5 (entriesOf figures))
+
+-- what is found of the figures of a line that was read; only a write has any
+abbrev pub ofFigures : {A : Type 0} → (Figures → A) → A → Parsed → A
+ofFigures found none (Known (Write figures)) = found figures
+ofFigures found none (Known (Read group)) = none
+ofFigures found none Unknown = none
+ofFigures found none Syntax = none
+
 abbrev pub outIn : ℕ → Parsed → Place
-outIn range parsed = outFrom range 5 (entriesIn parsed)
+outIn range parsed = ofFigures (outOf range) nowhere parsed
 
 -- ---- what is expected there, for people
 

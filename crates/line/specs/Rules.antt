@@ -9,13 +9,13 @@ use Rattle.zone.specs.declared.figures.Figures.{Figures}
 use Rattle.zone.specs.declared.figures.Command.{Command}
 use Rattle.zone.specs.Table.{everyForm}
 use Rattle.zone.specs.declared.figures.Command.the-variants.{Write}
-use Rattle.zone.specs.Figures.{entriesOf, inRange}
+use Rattle.zone.specs.Figures.{inRange}
 use Rattle.wire.specs.declared.Figure.the-variants.{Value}
 use Rattle.wire.specs.declared.Parsed.the-variants.{Known, Syntax}
 use Rattle.wire.specs.Road.{carriesCommand, lengthOf}
 use Rattle.line.specs.Field.{digitsOf}
 use Rattle.line.specs.Line.{digitsFor, textRoad, lineOf, lineRead}
-use Rattle.line.specs.Places.{offset, wrongFrom, wrongIn, outFrom, expectedIn}
+use Rattle.line.specs.Places.{offset, wrongFrom, wrongIn, outOf, expectedIn}
 
 -- "The rule for a digit field is proved once over its width": a field is read as n exactly where it is the `width` digits of n. `digit-field`, in proofs/DigitRule.antt
 abbrev pub DigitField : Type 0
@@ -49,7 +49,7 @@ SyntaxPlaceWithin = (line : List ℕ) (n : ℕ) → wrongIn line ≡ offset n �
 
 -- figures are out of range exactly where they have the place of a 9. `range-has-place`, in proofs/Placed.antt
 abbrev pub RangeHasPlace : Type 0
-RangeHasPlace = (range : ℕ) (figures : Figures) → (inRange range figures ≡ false) ↔ ((n : ℕ) × (outFrom range 5 (entriesOf figures) ≡ offset n))
+RangeHasPlace = (range : ℕ) (figures : Figures) → (inRange range figures ≡ false) ↔ ((n : ℕ) × (outOf range figures ≡ offset n))
 
 -- which is that of a byte of the line, and the byte before it is a space. `range-place-within`, in proofs/Placed.antt
 pub record BehindSpace (line : List ℕ) (n : ℕ) : Type 0 where
@@ -58,7 +58,7 @@ pub record BehindSpace (line : List ℕ) (n : ℕ) : Type 0 where
   pub space-before : getD line (n - 1) 0 ≡ 32
 
 abbrev pub RangePlaceWithin : Type 0
-RangePlaceWithin = (line : List ℕ) (range : ℕ) (figures : Figures) (n : ℕ) → lineRead line ≡ Known (Write figures) → outFrom range 5 (entriesOf figures) ≡ offset n → BehindSpace line n
+RangePlaceWithin = (line : List ℕ) (range : ℕ) (figures : Figures) (n : ℕ) → lineRead line ≡ Known (Write figures) → outOf range figures ≡ offset n → BehindSpace line n
 
 -- what is expected in a wrong line is what its place was found by. `expected-there`, in proofs/Placed.antt
 abbrev pub ExpectedThere : Type 0

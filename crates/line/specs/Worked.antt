@@ -32,6 +32,12 @@ examples =
     record { line = "SSOLW 301"; wrong = nowhere; out = offset 6 } ∷
     record { line = "SAHUE 1 100 004 010"; wrong = nowhere; out = offset 8 } ∷
     record { line = "SAHUE 1 010 010 100 000"; wrong = nowhere; out = offset 20 } ∷
+    -- a window that does not open before it closes (Req 06): its end, unless an earlier figure is out of its own range
+    record { line = "SAHUE 1 010 010 500 200"; wrong = nowhere; out = offset 20 } ∷
+    record { line = "SAHUE 1 010 010 200 200"; wrong = nowhere; out = offset 20 } ∷
+    record { line = "SAHUE 1 010 010 200 201"; wrong = nowhere; out = nowhere } ∷
+    record { line = "SAHUE 1 010 004 500 200"; wrong = nowhere; out = offset 12 } ∷
+    record { line = "SAHUE 1 010 010 999 200"; wrong = nowhere; out = offset 16 } ∷
     -- nothing is wrong, or the command is unknown
     record { line = "SSOLW 300"; wrong = nowhere; out = nowhere } ∷
     record { line = "LHZBG"; wrong = nowhere; out = nowhere } ∷

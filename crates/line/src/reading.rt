@@ -14,11 +14,10 @@ use zone::WindowFigures;
 ghost use mathlib.Core.Path.{_≡_};
 ghost use lib.ListN.{length};
 ghost use Rattle.zone.specs.Table.{Form};
-ghost use Rattle.zone.specs.Figures.{entriesOf};
 ghost use Rattle.line.specs.Inner.{watchedOf, wholeOf, formWalked};
 ghost use Rattle.line.specs.Inner as steps;
 ghost use Rattle.line.specs.Line.{same, groupNamed, lineRead};
-ghost use Rattle.line.specs.Places.{told, formFor, wrongIn, outFrom, outIn};
+ghost use Rattle.line.specs.Places.{told, formFor, wrongIn, outOf, outIn};
 
 // What a line is found to be, and the offset of what is wrong in it: 0 unless it is a syntax error.
 pub struct Reading {
@@ -255,9 +254,10 @@ pub fn read(line: &[u8]) -> Reading
     }
 }
 
-// Where the first figure out of its range starts, in the line of those figures; 0 if there is none.
+// Where the first figure out of its range starts, in the line of those figures, or the end of a window
+// that does not open before it closes; 0 if nothing is out of range.
 fn first_out(figures: Figures, range: u32) -> usize
-    ensures { λ r. ⌜ r ≡ told (outFrom range 5 (entriesOf figures)) ⌝ }
+    ensures { λ r. ⌜ r ≡ told (outOf range figures) ⌝ }
 {
     let fits = figures.fits(range);
     if !fits[0] {
@@ -273,6 +273,9 @@ fn first_out(figures: Figures, range: u32) -> usize
         return 16;
     }
     if !fits[4] {
+        return 20;
+    }
+    if !figures.opens() {
         return 20;
     }
     0

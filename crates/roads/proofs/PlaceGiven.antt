@@ -9,7 +9,7 @@ use lib.Dec.{eqb}
 use borrow.Author.Tests.{le-ltb, ne-eqb, not-true, eqb-true, eqb-false}
 use Rattle.zone.specs.declared.figures.Figures.{Figures}
 use Rattle.zone.specs.declared.figures.Command.the-variants.{Read, Write}
-use Rattle.zone.specs.Figures.{groupOf, entriesOf, inRange}
+use Rattle.zone.specs.Figures.{groupOf, inRange}
 use Rattle.zone.specs.Zones.{locks}
 use Rattle.card.specs.declared.records.Record.{Record}
 use Rattle.card.specs.Refusals.{first}
@@ -17,7 +17,7 @@ use Rattle.card.specs.Records.{zoneAt, sound, noZone}
 use Rattle.wire.specs.declared.Parsed.{Parsed}
 use Rattle.wire.specs.declared.Parsed.the-variants.{Known, Unknown, Syntax}
 use Rattle.line.specs.Line.{lineRead}
-use Rattle.line.specs.Places.{told, offset, wrongIn, outFrom, outIn}
+use Rattle.line.specs.Places.{told, offset, wrongIn, outOf, outIn}
 use Rattle.line.specs.Rules.{BehindSpace}
 use Rattle.line.proofs.Placed.{syntax-has-place, syntax-place-within, range-has-place, range-place-within}
 use Rattle.roads.specs.Calls.{tooSmall, parsedRows, textResult, answerText, placeBy, textPlace}
@@ -77,7 +77,7 @@ place-given r n line room = record { eight = eight; nine = nine; others = others
         let q : placeBy number range line ≡ p .0 = ap (λ (m : ℕ). placeBy m range line) e ∙ ap told (p .1) in
         rw q (p .1, w .0, w .1)
 
-    nine : number ≡ 9 → (figures : Figures) × (lineRead line ≡ Known (Write figures)) × (outFrom range 5 (entriesOf figures) ≡ offset (placeBy number range line)) × BehindSpace line (placeBy number range line)
+    nine : number ≡ 9 → (figures : Figures) × (lineRead line ≡ Known (Write figures)) × (outOf range figures ≡ offset (placeBy number range line)) × BehindSpace line (placeBy number range line)
     nine e =
         let k = nine-read r n line room (lineRead line) (given r n line room 9 (omega arith) e) in
         let f = k .0 in
@@ -110,7 +110,7 @@ place-told r n line room p big s z = record { eight = eight; nine = nine }
         let given : number ≡ 8 = rw (le-ltb (length room) 32 big, s, z, is) in
         (given, ap (λ (m : ℕ). placeBy m (zoneAt r n .range) line) given ∙ ap told e)
 
-    nine : (figures : Figures) → lineRead line ≡ Known (Write figures) → outFrom (zoneAt r n .range) 5 (entriesOf figures) ≡ offset p → (number ≡ 9) × (placeBy number (zoneAt r n .range) line ≡ p)
+    nine : (figures : Figures) → lineRead line ≡ Known (Write figures) → outOf (zoneAt r n .range) figures ≡ offset p → (number ≡ 9) × (placeBy number (zoneAt r n .range) line ≡ p)
     nine f is e =
         let out = range-has-place (zoneAt r n .range) f .1 (p, e) in
         let given : number ≡ 9 = rw (le-ltb (length room) 32 big, s, z, is, out) in

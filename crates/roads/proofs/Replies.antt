@@ -14,10 +14,10 @@ use Rattle.zone.specs.declared.figures.Command.the-variants.{Write}
 use Rattle.zone.specs.declared.zones.Zone.{Zone}
 use Rattle.zone.specs.Lists.{within, every}
 use Rattle.zone.specs.Table.{Column, Form, deadline, window, hzbg, rrue, solw, layout}
-use Rattle.zone.specs.Figures.{formOf, numbers, entries, inRange}
+use Rattle.zone.specs.Figures.{formOf, numbers, entries, eachInRange, inRange}
 use Rattle.zone.specs.Zones.{figuresOf, rangeKnown}
 use Rattle.zone.proofs.Tests.{never, both}
-use Rattle.zone.proofs.Sound.{Fit, fits}
+use Rattle.zone.proofs.Sound.{Fit, fits, in-range-parts}
 use Rattle.card.specs.declared.records.Record.{Record}
 use Rattle.card.specs.Records.{zoneAt, sound}
 use Rattle.card.proofs.Storing.{zone-sound}
@@ -71,13 +71,15 @@ known road range form b h = by-range (eqb range 300) (eqb range 500) refl refl h
     by-range false true e k h = rw (eqb-true range 500 k) (b .1)
     by-range false false e k h = never h
 
-in-range-carried : (road : Road) (range : ℕ) (f : Figures) → ((form : Form) → (below road 300 (layout form .columns) ≡ true) × (below road 500 (layout form .columns) ≡ true)) → rangeKnown range ≡ true → inRange range f ≡ true → carries road f ≡ true
-unfolding inRange carries
+in-range-carried : (road : Road) (range : ℕ) (f : Figures) → ((form : Form) → (below road 300 (layout form .columns) ≡ true) × (below road 500 (layout form .columns) ≡ true)) → rangeKnown range ≡ true → eachInRange range f ≡ true → carries road f ≡ true
+unfolding eachInRange carries
 in-range-carried road range f b k h = in-both road range (layout (formOf f) .columns) (numbers f) (known road range (formOf f) (b (formOf f)) k) h
 
 -- a figure in its range can be carried by both roads
 pub in-range-both : (range : ℕ) (f : Figures) → rangeKnown range ≡ true → inRange range f ≡ true → (carries textRoad f ≡ true) × (carries frameRoad f ≡ true)
-in-range-both range f k h = (in-range-carried textRoad range f text-below k h, in-range-carried frameRoad range f frame-below k h)
+in-range-both range f k h =
+    let each = in-range-parts range f h .0 in
+    (in-range-carried textRoad range f text-below k each, in-range-carried frameRoad range f frame-below k each)
 
 stored-in-range : (z : Zone) (g : Group) → Fit z → inRange (z .range) (figuresOf z g) ≡ true
 stored-in-range z Ahue k = k .ahue

@@ -7,14 +7,13 @@ use lib.ListN.{length}
 use Rattle.zone.specs.declared.figures.Figures.{Figures}
 use Rattle.zone.specs.declared.figures.Command.{Command}
 use Rattle.zone.specs.declared.figures.Command.the-variants.{Write}
-use Rattle.zone.specs.Figures.{entriesOf}
 use Rattle.card.specs.declared.records.Record.{Record}
 use Rattle.card.specs.Records.{zoneAt, sound, noZone}
 use Rattle.card.specs.Calls.{applyOf}
 use Rattle.wire.specs.declared.Parsed.the-variants.{Known}
 use Rattle.wire.specs.Road.{carriesCommand}
 use Rattle.line.specs.Line.{textRoad, lineOf, lineRead}
-use Rattle.line.specs.Places.{offset, wrongIn, outFrom}
+use Rattle.line.specs.Places.{offset, wrongIn, outOf}
 use Rattle.line.specs.Rules.{BehindSpace}
 use Rattle.frame.specs.Frame.{frameRoad, frameOf}
 use Rattle.roads.specs.Calls.{textResult, answerText, textPlace, frameResult}
@@ -34,8 +33,8 @@ FrameApplies = (r : Record) (n : ℕ) (command : Command) (room : List ℕ) → 
 pub record PlaceWith (number place range : ℕ) (line : List ℕ) : Type 0 where
   -- 8: something is wrong there, behind the five letters and at the line's end at most
   pub eight : number ≡ 8 → (wrongIn line ≡ offset place) × (5 ≤ place) × (place ≤ length line)
-  -- 9: the line is a write, and the first of its figures that is out of range starts there, behind a space and within the line
-  pub nine : number ≡ 9 → (figures : Figures) × (lineRead line ≡ Known (Write figures)) × (outFrom range 5 (entriesOf figures) ≡ offset place) × BehindSpace line place
+  -- 9: the line is a write, and the first of its figures that is out of range, or the end of a window that does not open before it closes, starts there, behind a space and within the line
+  pub nine : number ≡ 9 → (figures : Figures) × (lineRead line ≡ Known (Write figures)) × (outOf range figures ≡ offset place) × BehindSpace line place
   -- "all others 0"
   pub others : (number ≡ 8 → ⊥) → (number ≡ 9 → ⊥) → place ≡ 0
 
@@ -43,11 +42,11 @@ pub record PlaceWith (number place range : ℕ) (line : List ℕ) : Type 0 where
 abbrev pub PlaceGiven : Type 0
 PlaceGiven = (r : Record) (n : ℕ) (line room : List ℕ) → PlaceWith (answerText r n line room .said .number) (textPlace r n line room) (zoneAt r n .range) line
 
--- and the other way: where nothing comes before it in the order (1, 2, 3), a line that is wrong at p is answered 8 with p, and a write whose first figure out of range starts at p is answered 9 with p.
+-- and the other way: where nothing comes before it in the order (1, 2, 3), a line that is wrong at p is answered 8 with p, and a write whose figures are out of range at p is answered 9 with p.
 -- `place-told`, in proofs/PlaceGiven.antt
 pub record PlaceFor (r : Record) (n : ℕ) (line room : List ℕ) (p : ℕ) : Type 0 where
   pub eight : wrongIn line ≡ offset p → (answerText r n line room .said .number ≡ 8) × (textPlace r n line room ≡ p)
-  pub nine : (figures : Figures) → lineRead line ≡ Known (Write figures) → outFrom (zoneAt r n .range) 5 (entriesOf figures) ≡ offset p → (answerText r n line room .said .number ≡ 9) × (textPlace r n line room ≡ p)
+  pub nine : (figures : Figures) → lineRead line ≡ Known (Write figures) → outOf (zoneAt r n .range) figures ≡ offset p → (answerText r n line room .said .number ≡ 9) × (textPlace r n line room ≡ p)
 
 abbrev pub PlaceTold : Type 0
 PlaceTold = (r : Record) (n : ℕ) (line room : List ℕ) (p : ℕ) → 32 ≤ length room → sound r ≡ true → noZone r n ≡ false → PlaceFor r n line room p

@@ -4,9 +4,8 @@ use mathlib.Core.Path.{_≡_}
 use mathlib.Core.List.{List, _++_}
 use lib.ListN.{length, take}
 use Rattle.zone.specs.declared.figures.Ranged.{Ranged}
-use Rattle.zone.specs.Lists.{ascii}
 use Rattle.saying.specs.declared.saying.Shown.{Shown}
-use Rattle.saying.specs.Saying.{Said, decimalFor}
+use Rattle.saying.specs.Saying.{Said, between}
 
 -- behind the first `at` bytes stands the text, and ends before index `end`
 pub record Appended (text out after : List ℕ) (at end : ℕ) : Type 0 where
@@ -15,7 +14,7 @@ pub record Appended (text out after : List ℕ) (at end : ℕ) : Type 0 where
 
 -- a range in words
 abbrev pub rangeIn : Ranged → List ℕ
-rangeIn g = decimalFor (g .lowest) ++ (ascii " to " ++ decimalFor (g .highest))
+rangeIn g = between (g .lowest) (g .highest)
 
 -- what is seen of a line that was answered: the output at the front of the room
 abbrev pub shownSeen : Shown → List ℕ → Said

@@ -1,17 +1,20 @@
 -- What `./card say` writes for a line that is sent to zone 0: its answer, and for a refusal what is wrong, in words.
-use Prim.Native.Nat.{ℕ, _-_}
+use Prim.Native.Nat.{ℕ, _+_, _-_}
 use mathlib.Core.Bool.{cond, _||_}
 use mathlib.Core.List.{List, [], _∷_, _++_, map}
-use lib.ListN.{length, replicate}
+use lib.ListN.{length, getD, replicate}
 use lib.Dec.{ltb, eqb}
+use Rattle.zone.specs.declared.figures.Figures.{Figures}
+use Rattle.zone.specs.declared.figures.Figures.the-variants.{AhueDeadline, AhueWindow, HzbgLimit, RrueReference, SolwSetpoint}
 use Rattle.zone.specs.Lists.{within, isZero, ascii}
-use Rattle.zone.specs.Figures.{Entry, fits}
+use Rattle.zone.specs.Table.{Column, setpoint, window, layout}
+use Rattle.zone.specs.Figures.{Entry, entriesOf, fits, eachInRange}
 use Rattle.card.specs.declared.records.Record.{Record}
 use Rattle.card.specs.Records.{zoneAt}
 use Rattle.line.specs.declared.expecting.Expects.{Expects}
 use Rattle.line.specs.declared.expecting.Expects.the-variants.{Space, Digit, Nothing}
 use Rattle.line.specs.Line.{digitsFor, lineRead}
-use Rattle.line.specs.Places.{entriesIn, expectedAt, expectedIn}
+use Rattle.line.specs.Places.{ofFigures, expectedAt, expectedIn}
 use Rattle.roads.specs.Calls.{Answered, replyIn, answerText, textPlace}
 use Rattle.texts.specs.Texts.{lineFeed, tab, orDash}
 
@@ -48,14 +51,34 @@ words Space = ascii "a space"
 words Digit = ascii "a digit"
 words Nothing = ascii "nothing more"
 
--- as "5 to 99": the range of the first figure that is out of it
+-- as "5 to 99"
+abbrev pub between : ℕ → ℕ → List ℕ
+between low high = decimalFor low ++ (ascii " to " ++ decimalFor high)
+
+-- the range of the first figure that is out of it
 unfoldable pub rangeMissed : ℕ → List Entry → List ℕ
 rangeMissed range [] = []
-rangeMissed range (e ∷ es) = cond (fits range e) (rangeMissed range es) (decimalFor (e .column .lowest) ++ (ascii " to " ++ decimalFor (e .column .highest range)))
+rangeMissed range (e ∷ es) = cond (fits range e) (rangeMissed range es) (between (e .column .lowest) (e .column .highest range))
+
+-- a window's end, the fifth of its row
+abbrev pub endColumn : Column
+endColumn = getD (layout window .columns) 4 setpoint
+
+-- what a window's end may be: above the begin (document 02, Req 06)
+abbrev pub endMissed : ℕ → Figures → List ℕ
+endMissed range (AhueDeadline f) = []
+endMissed range (AhueWindow f) = between (f .begin + 1) (endColumn .highest range)
+endMissed range (HzbgLimit f) = []
+endMissed range (RrueReference f) = []
+endMissed range (SolwSetpoint f) = []
+
+-- as the place of a 9: the end, if each figure is in its own range, else the first that is not
+abbrev pub missed : ℕ → Figures → List ℕ
+missed range figures = cond (eachInRange range figures) (endMissed range figures) (rangeMissed range (entriesOf figures))
 
 -- what is expected at the place; the figures stand behind the five letters
 abbrev pub expectation : ℕ → ℕ → List ℕ → ℕ → List ℕ
-expectation number range line place = cond (eqb number 8) (words (expectedAt (expectedIn line) (place - 5))) (rangeMissed range (entriesIn (lineRead line)))
+expectation number range line place = cond (eqb number 8) (words (expectedAt (expectedIn line) (place - 5))) (ofFigures (missed range) [] (lineRead line))
 
 -- the line that was sent, and under it a caret at the place with what is expected there
 abbrev pub caretAt : ℕ → List ℕ → List ℕ

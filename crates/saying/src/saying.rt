@@ -15,10 +15,12 @@ ghost use mathlib.Core.Path.{_≡_};
 ghost use mathlib.Core.List.{map};
 ghost use Prim.Native.Nat.{_+_, _-_, _≤_};
 ghost use lib.ListN.{length, take};
-ghost use Rattle.zone.specs.Figures.{entriesOf};
-ghost use Rattle.line.specs.Places.{entriesIn};
+ghost use mathlib.Core.Bool.{true};
+ghost use mathlib.Core.List.{[]};
+ghost use Rattle.zone.specs.Figures.{entriesOf, eachInRange};
+ghost use Rattle.line.specs.Places.{ofFigures};
 ghost use Rattle.saying.specs.Inner.{Appended, rangeIn, shownSeen};
-ghost use Rattle.saying.specs.Saying.{behindBlanks, meaning, printed, rangeMissed, expectation, caretAt, pointed, explained, tooLong, sayOf};
+ghost use Rattle.saying.specs.Saying.{behindBlanks, meaning, printed, rangeMissed, endMissed, missed, expectation, caretAt, pointed, explained, tooLong, sayOf};
 
 pub struct Shown {
     pub after: Record,
@@ -37,7 +39,7 @@ fn append_range(ranged: Ranged, out: &mut [u8], at: usize) -> usize
 }
 
 // The range of the first figure that is out of it.
-fn append_missed(figures: Figures, range: u32, out: &mut [u8], at: usize) -> usize
+fn append_first_missed(figures: Figures, range: u32, out: &mut [u8], at: usize) -> usize
     requires { ⌜ at + 10 ≤ length (now out) ⌝ }
     ensures { λ r. ⌜ Appended (rangeMissed range (entriesOf figures)) (now (out .entry)) (now (out .exit)) at r ⌝ }
     ensures { λ r. ⌜ r ≤ at + 10 ⌝ }
@@ -62,9 +64,41 @@ fn append_missed(figures: Figures, range: u32, out: &mut [u8], at: usize) -> usi
     at
 }
 
+// What the end of a window may be, above its begin; nothing for the other forms.
+fn append_end_missed(figures: Figures, range: u32, out: &mut [u8], at: usize) -> usize
+    requires { ⌜ (eachInRange range figures ≡ true) × (at + 10 ≤ length (now out)) ⌝ }
+    ensures { λ r. ⌜ Appended (endMissed range figures) (now (out .entry)) (now (out .exit)) at r ⌝ }
+    ensures { λ r. ⌜ r ≤ at + 10 ⌝ }
+{
+    let row = figures.row(range);
+    let mut end = row[4];
+    match figures {
+        Figures::AhueDeadline(_) => at,
+        Figures::AhueWindow(f) => {
+            end.lowest = f.begin + 1;
+            append_range(end, out, at)
+        }
+        Figures::HzbgLimit(_) => at,
+        Figures::RrueReference(_) => at,
+        Figures::SolwSetpoint(_) => at,
+    }
+}
+
+// The range that the figure at the place of a 9 missed.
+fn append_missed(figures: Figures, range: u32, out: &mut [u8], at: usize) -> usize
+    requires { ⌜ at + 10 ≤ length (now out) ⌝ }
+    ensures { λ r. ⌜ Appended (missed range figures) (now (out .entry)) (now (out .exit)) at r ⌝ }
+    ensures { λ r. ⌜ r ≤ at + 10 ⌝ }
+{
+    if figures.each_in_range(range) {
+        return append_end_missed(figures, range, out, at);
+    }
+    append_first_missed(figures, range, out, at)
+}
+
 fn append_missed_in(parsed: Parsed, range: u32, out: &mut [u8], at: usize) -> usize
     requires { ⌜ at + 10 ≤ length (now out) ⌝ }
-    ensures { λ r. ⌜ Appended (rangeMissed range (entriesIn parsed)) (now (out .entry)) (now (out .exit)) at r ⌝ }
+    ensures { λ r. ⌜ Appended (ofFigures (missed range) [] parsed) (now (out .entry)) (now (out .exit)) at r ⌝ }
     ensures { λ r. ⌜ r ≤ at + 10 ⌝ }
 {
     match parsed {

@@ -7,12 +7,15 @@ use lib.Dec.{eqb}
 use lib.Seq.{getD-set-other}
 use borrow.Author.Tests.{eqb-true, eqb-false}
 use Rattle.zone.specs.declared.figures.Figures.{Figures}
+use Rattle.zone.specs.declared.figures.Figures.the-variants.{AhueWindow}
+use Rattle.zone.specs.declared.figures.WindowFigures.{WindowFigures}
 use Rattle.zone.specs.declared.figures.Command.{Command}
 use Rattle.zone.specs.declared.figures.Command.the-variants.{Read, Write}
 use Rattle.zone.specs.declared.zones.Zone.{Zone}
 use Rattle.zone.specs.Lists.{isZero}
-use Rattle.zone.specs.Zones.{newZone, emptyZone, stateNumbered}
+use Rattle.zone.specs.Zones.{newZone, emptyZone, stateNumbered, opened}
 use Rattle.zone.specs.Rules.{SetsFigures, SetsStatus}
+use Rattle.zone.proofs.Mended.{by-window, not-shut}
 use Rattle.card.specs.declared.records.Record.{Record}
 use Rattle.card.specs.Answers.{Result}
 use Rattle.card.specs.declared.records.Found.the-variants.{At}
@@ -20,14 +23,15 @@ use Rattle.card.specs.Records.{zoneAt, withZone, findOf}
 use Rattle.card.specs.Calls.{addOf, applyOf}
 use Rattle.card.proofs.Kept.{add-exactly, add-keeps, remove-keeps, report-keeps, apply-keeps}
 use Rattle.card.proofs.Found.{find-own}
+use Rattle.card.proofs.Repairs.{shut-present, repair-mends}
 use Rattle.card.proofs.Sets.{remove-at-zone, report-at-zone, write-at-zone, add-sets, remove-sets, report-sets, write-sets, read-alters-nothing}
 use Rattle.wire.specs.declared.Parsed.the-variants.{Known}
 use Rattle.line.specs.Line.{lineRead}
 use Rattle.frame.specs.declared.reading.Framed.the-variants.{Request}
 use Rattle.frame.specs.Frame.{addressIn, frameRead}
 use Rattle.roads.specs.Calls.{textResult, answerText, frameResult, answerFrame}
-use Rattle.session.specs.Sessions.{text, frame, composeLine, composeFrame, add, remove, report, apply, Call, inRoom, quiet, after, Done}
-use Rattle.session.specs.Changes.{Writes, by-apply, by-line, by-frame, Reports, reported, Removes, removed, Adds, added, WhatIsDoneIsSet, Becomes, stays, written, was-reported, was-removed, was-added, EveryZoneBecomes}
+use Rattle.session.specs.Sessions.{text, frame, composeLine, composeFrame, add, remove, report, apply, repair, Call, inRoom, quiet, after, Done}
+use Rattle.session.specs.Changes.{Writes, by-apply, by-line, by-frame, Reports, reported, Removes, removed, Adds, added, Mends, mended, WhatIsDoneIsSet, Becomes, stays, written, was-reported, was-removed, was-added, was-mended, EveryZoneBecomes}
 use Rattle.session.proofs.Answering.{record-kept, by-done}
 use Rattle.session.proofs.Done.{Applied, line-is-done, frame-is-done}
 
@@ -99,6 +103,13 @@ frame-becomes r bytes room n =
 add-absent : (r : Record) (m a range : ℕ) → addOf r m a range .number ≡ 0 → zoneAt r m .present ≡ false
 add-absent r m a range d = add-exactly r m a range .done .0 d 2
 
+-- a done repair mends the zone or leaves it
+repair-becomes : (r : Record) (n : ℕ) → Done r (quiet repair) → Becomes r n (quiet repair) (zoneAt (after r (quiet repair)) n)
+repair-becomes r n d =
+    by-window (zoneAt r n)
+    (λ w. stays (repair-mends r d .others n (λ f s. not-shut (zoneAt r n) f w s)))
+    (λ f s. was-mended f (mended d s) (shut-present r n f d s) (repair-mends r d .ends n f s))
+
 pub becomes : EveryZoneBecomes
 becomes r (inRoom (text m line) room) n = text-becomes r m line room n
 becomes r (inRoom (frame bytes) room) n = frame-becomes r bytes room n
@@ -111,6 +122,7 @@ becomes r (quiet (report m state actual)) n =
     at-zone r (quiet (report m state actual)) m n (report-keeps r m state actual .others) (λ d. was-reported state actual (reported d) (report-at-zone r m state actual d .present) (report-sets r m state actual d))
 becomes r (quiet (apply m c)) n =
     at-zone r (quiet (apply m c)) m n (apply-keeps r m c .others) (λ d. by-command r (applyOf r m c .after) (quiet (apply m c)) m c refl d (λ f e. subst (λ (x : Command). Writes m f r (quiet (apply m x))) (sym e) (by-apply (subst (λ (x : Command). Done r (quiet (apply m x))) e d))))
+becomes r (quiet repair) n = by-done r (quiet repair) (repair-becomes r n) (λ u. stays (ap (λ (s : Record). zoneAt s n) (record-kept r (quiet repair) u)))
 
 -- ---- what is done is set
 
@@ -155,5 +167,8 @@ emptied r call n (removed d) = remove-sets r n d
 made-new : (r : Record) (call : Call) (n address range : ℕ) → Adds n address range r call → zoneAt (after r call) n ≡ newZone address range
 made-new r call n address range (added d) = add-sets r n address range d
 
+end-set : (r : Record) (call : Call) (n : ℕ) (f : WindowFigures) → Mends n f r call → SetsFigures (zoneAt r n) (AhueWindow (opened f)) (zoneAt (after r call) n)
+end-set r call n f (mended d s) = repair-mends r d .ends n f s
+
 pub sets : WhatIsDoneIsSet
-sets r call n = record { figures-set = figures-set r call n; status-set = status-set r call n; emptied = emptied r call n; made-new = made-new r call n }
+sets r call n = record { figures-set = figures-set r call n; status-set = status-set r call n; emptied = emptied r call n; made-new = made-new r call n; end-set = end-set r call n }

@@ -24,7 +24,7 @@ use Rattle.frame.specs.Frame.{addressIn, bodyIn, shaped, checksumRight, bodyRea
 use Rattle.roads.specs.Acknowledgements.{textReply, frameReply}
 use Rattle.roads.specs.Calls.{Answered, tooSmall, parsedRows, answerText, holder, resultAt, inFrameReply, answerFrame}
 use Rattle.session.specs.Sessions.{Quiet, remove, Call, quiet, answerTo, after, Done, run, Throughout}
-use Rattle.session.specs.Changes.{Becomes, stays, written, was-reported, was-removed, was-added, Adds, NotAdded, NotGiven}
+use Rattle.session.specs.Changes.{Becomes, stays, written, was-reported, was-removed, was-added, was-mended, Adds, NotAdded, NotGiven}
 use Rattle.session.specs.Demands.{StaysEmpty, StaysRemoved, MeetsSilence, refusedSilently, PointsAt, applies, reports, removes, RemovedStaysGone}
 use Rattle.session.proofs.Changes.{becomes}
 use Rattle.session.proofs.Demand3.{stays-sound}
@@ -44,6 +44,7 @@ one-kept r n call e u = by-change (becomes r call n)
     by-change (was-reported state actual w p s) = absent-here e p
     by-change (was-removed w p s) = s
     by-change (was-added address range w p s) = absurd (u address range w)
+    by-change (was-mended window w p s) = absent-here e p
 
 pub stays-empty : StaysEmpty
 stays-empty r n [] e u = e
@@ -110,6 +111,7 @@ one-unheld a r call h u m = by-change (becomes r call m)
     by-change {z} (written figures w p s) = same-holder a (zoneAt r m) z (s .head) (h m)
     by-change {z} (was-reported state actual w p s) = same-holder a (zoneAt r m) z (s .head) (h m)
     by-change (was-removed w p s) = rw s
+    by-change {z} (was-mended window w p s) = same-holder a (zoneAt r m) z (s .head) (h m)
     by-change (was-added b range w p s) = rw s (by-address (eqb b a) refl)
       where
         by-address : (t : Bool) → eqb b a ≡ t → t ≡ false

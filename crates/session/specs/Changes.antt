@@ -1,23 +1,26 @@
--- What a call does to a zone: what document 01 has a done write, report, removal or addition set is set, and nothing else becomes of any zone. The hypotheses of the demands on whole sessions are said in these words.
+-- What a call does to a zone: what document 01 has a done write, report, removal or addition set is set, and what document 02 has a repair mend is mended, and nothing else becomes of any zone. The hypotheses of the demands on whole sessions are said in these words.
 -- "P → ⊥" says that P does not hold, "P × Q" that both do.
 use Prim.Native.Nat.{ℕ}
 use mathlib.Core.Path.{_≡_}
 use mathlib.Core.Bool.{true, false}
 use mathlib.Core.List.{List}
 use Rattle.zone.specs.declared.figures.Group.{Group}
+use Rattle.zone.specs.declared.figures.Group.the-variants.{Ahue}
 use Rattle.zone.specs.declared.figures.Figures.{Figures}
+use Rattle.zone.specs.declared.figures.Figures.the-variants.{AhueWindow}
+use Rattle.zone.specs.declared.figures.WindowFigures.{WindowFigures}
 use Rattle.zone.specs.declared.figures.Command.the-variants.{Write}
 use Rattle.zone.specs.declared.zones.Zone.{Zone}
 use Rattle.zone.specs.Figures.{groupOf}
-use Rattle.zone.specs.Zones.{newZone, emptyZone, stateNumbered}
-use Rattle.zone.specs.Rules.{SetsFigures, SetsStatus}
+use Rattle.zone.specs.Zones.{newZone, emptyZone, stateNumbered, opened}
+use Rattle.zone.specs.Rules.{SetsFigures, SetsStatus, Shut}
 use Rattle.card.specs.declared.records.Record.{Record}
 use Rattle.card.specs.Records.{zoneAt}
 use Rattle.wire.specs.declared.Parsed.the-variants.{Known}
 use Rattle.line.specs.Line.{lineRead}
 use Rattle.frame.specs.declared.reading.Framed.the-variants.{Request}
 use Rattle.frame.specs.Frame.{frameRead}
-use Rattle.session.specs.Sessions.{text, frame, add, remove, report, apply, Call, inRoom, quiet, Done, after}
+use Rattle.session.specs.Sessions.{text, frame, add, remove, report, apply, repair, Call, inRoom, quiet, Done, after}
 
 -- the call is a done write of those figures to zone n, applied or by either road
 pub data Writes (n : ℕ) (figures : Figures) (r : Record) : Call → Type 0 where
@@ -36,24 +39,30 @@ pub data Removes (n : ℕ) (r : Record) : Call → Type 0 where
 pub data Adds (n address range : ℕ) (r : Record) : Call → Type 0 where
   added : Done r (quiet (add n address range)) → Adds n address range r (quiet (add n address range))
 
--- what is done is set: "A done write sets exactly the figures of its group in its zone"; "A done report sets exactly the state and the actual value of its zone"; "Removing empties the zone"; a done addition gives the new zone
+-- a done repair, where zone n has a window whose begin is not below its end
+pub data Mends (n : ℕ) (window : WindowFigures) (r : Record) : Call → Type 0 where
+  mended : Done r (quiet repair) → Shut (zoneAt r n) window → Mends n window r (quiet repair)
+
+-- what is done is set: "A done write sets exactly the figures of its group in its zone"; "A done report sets exactly the state and the actual value of its zone"; "Removing empties the zone"; a done addition gives the new zone; a repair "sets the end to begin + 1 in each such zone"
 pub record Sets (r : Record) (n : ℕ) (call : Call) (z : Zone) : Type 0 where
   pub figures-set : (figures : Figures) → Writes n figures r call → SetsFigures (zoneAt r n) figures z
   pub status-set : (state actual : ℕ) → Reports n state actual r call → SetsStatus (zoneAt r n) (record { state = stateNumbered state; actual = actual }) z
   pub emptied : Removes n r call → z ≡ emptyZone
   pub made-new : (address range : ℕ) → Adds n address range r call → z ≡ newZone address range
+  pub end-set : (window : WindowFigures) → Mends n window r call → SetsFigures (zoneAt r n) (AhueWindow (opened window)) z
 
 -- `sets`, in proofs/Changes.antt: of every call and every zone
 abbrev pub WhatIsDoneIsSet : Type 0
 WhatIsDoneIsSet = (r : Record) (call : Call) (n : ℕ) → Sets r n call (zoneAt (after r call) n)
 
--- and nothing else becomes of zone n: it stays as it is or, where it is present, gets what is written or reported, or is emptied; where it is absent, it may become a new zone
+-- and nothing else becomes of zone n: it stays as it is or, where it is present, gets what is written or reported, or is emptied or mended; where it is absent, it may become a new zone
 pub data Becomes (r : Record) (n : ℕ) (call : Call) (z : Zone) : Type 0 where
   stays : z ≡ zoneAt r n → Becomes r n call z
   written : (figures : Figures) → Writes n figures r call → zoneAt r n .present ≡ true → SetsFigures (zoneAt r n) figures z → Becomes r n call z
   was-reported : (state actual : ℕ) → Reports n state actual r call → zoneAt r n .present ≡ true → SetsStatus (zoneAt r n) (record { state = stateNumbered state; actual = actual }) z → Becomes r n call z
   was-removed : Removes n r call → zoneAt r n .present ≡ true → z ≡ emptyZone → Becomes r n call z
   was-added : (address range : ℕ) → Adds n address range r call → zoneAt r n .present ≡ false → z ≡ newZone address range → Becomes r n call z
+  was-mended : (window : WindowFigures) → Mends n window r call → zoneAt r n .present ≡ true → SetsFigures (zoneAt r n) (AhueWindow (opened window)) z → Becomes r n call z
 
 -- `becomes`, in proofs/Changes.antt: of every call, whatever it is and whatever it is answered, and of every zone
 abbrev pub EveryZoneBecomes : Type 0
@@ -68,7 +77,8 @@ NotAdded n r call = (address range : ℕ) → Adds n address range r call → �
 abbrev pub NotGiven : ℕ → Record → Call → Type 0
 NotGiven address r call = (n range : ℕ) → Adds n address range r call → ⊥
 
--- no figures of that group are written to zone n, and it is not removed
+-- no figures of that group are written to zone n, it is not removed and, if the group is AHUE, no window of it is mended
 pub record NotRewritten (n : ℕ) (group : Group) (r : Record) (call : Call) : Type 0 where
   pub not-written : (figures : Figures) → groupOf figures ≡ group → Writes n figures r call → ⊥
   pub not-removed : Removes n r call → ⊥
+  pub not-mended : group ≡ Ahue → (window : WindowFigures) → Mends n window r call → ⊥

@@ -3,12 +3,13 @@
 use Prim.Native.Nat.{ℕ, _≤_, _<_, min}
 use mathlib.Core.Path.{_≡_}
 use mathlib.Core.Logic.{_⊎_}
-use mathlib.Core.Bool.{Bool, true, cond, _&&_}
+use mathlib.Core.Bool.{Bool, true, false, cond, _&&_}
 use mathlib.Core.List.{List, [], _∷_, map}
 use lib.ListN.{length, getD, set}
 use lib.Dec.{eqb, ltb}
 use Rattle.zone.specs.declared.figures.Group.{Group}
 use Rattle.zone.specs.declared.figures.Figures.{Figures}
+use Rattle.zone.specs.declared.figures.WindowFigures.{WindowFigures}
 use Rattle.zone.specs.declared.figures.Command.{Command}
 use Rattle.zone.specs.declared.figures.Command.the-variants.{Read, Write}
 use Rattle.zone.specs.declared.zones.Zone.{Zone}
@@ -16,12 +17,12 @@ use Rattle.zone.specs.Lists.{some, every}
 use Rattle.zone.specs.Table.{Kind, flag, limit, time}
 use Rattle.zone.specs.Figures.{groupOf, entriesOf, inRange}
 use Rattle.zone.specs.Zones.{emptyZone, figuresOf, addressInRange, locks}
-use Rattle.zone.specs.Rules.{SetsFigures}
+use Rattle.zone.specs.Rules.{SetsFigures, Shut}
 use Rattle.card.specs.declared.records.Record.{Record}
 use Rattle.card.specs.Refusals.{Row}
-use Rattle.card.specs.Records.{zoneAt, sound}
-use Rattle.card.specs.Calls.{addRows, zoneRows, removeAt, reportAt, commandAt}
-use Rattle.card.specs.Rules.{ExactlyWhen, numbersIn, addOrder, removeOrder, reportOrder, applyOrder, InOrder}
+use Rattle.card.specs.Records.{zoneAt, otherwiseSound, sound}
+use Rattle.card.specs.Calls.{addRows, zoneRows, removeAt, reportAt, commandAt, repairRows}
+use Rattle.card.specs.Rules.{ExactlyWhen, numbersIn, addOrder, removeOrder, reportOrder, applyOrder, repairOrder, InOrder}
 use Rattle.wire.specs.declared.Parsed.the-variants.{Known}
 use Rattle.wire.specs.Road.{carriesCommand}
 use Rattle.line.specs.Line.{A, S, textRoad, lineWith, lineOf, lineRead}
@@ -31,12 +32,12 @@ use Rattle.roads.specs.declared.answering.Acknowledgement.{Acknowledgement}
 use Rattle.roads.specs.declared.answering.Acknowledgement.the-variants.{Okay}
 use Rattle.roads.specs.Acknowledgements.{textOf, functionOf, textRefusal, frameRefusal}
 use Rattle.roads.specs.Calls.{Said, said, Answered, replyIn, textOrder, textRows, answerText, frameOrder, frameRows, answerFrame, composeOrder, composeRows, composedLine, composedFrame}
-use Rattle.session.specs.Sessions.{Speaking, text, frame, composeLine, composeFrame, Quiet, add, remove, report, apply, Call, inRoom, quiet, answerTo, after, Done, run, Throughout}
+use Rattle.session.specs.Sessions.{Speaking, text, frame, composeLine, composeFrame, Quiet, add, remove, report, apply, repair, Call, inRoom, quiet, answerTo, after, Done, run, Throughout}
 use Rattle.session.specs.Changes.{NotAdded, NotGiven, NotRewritten}
 
 -- ---- 1. "Any bytes, any zone number and any record may be handed to the card."
 
--- the order of a call's refusals, as document 01 prints it; of apply, as it follows from that of a line
+-- the order of a call's refusals, as document 01 prints it; of apply, as it follows from that of a line; of the repair, as document 02 has it
 abbrev pub spokenOrder : Speaking → List ℕ
 spokenOrder (text zone line) = textOrder
 spokenOrder (frame bytes) = frameOrder
@@ -48,6 +49,7 @@ quietOrder (add zone address range) = addOrder
 quietOrder (remove zone) = removeOrder
 quietOrder (report zone state actual) = reportOrder
 quietOrder (apply zone command) = applyOrder
+quietOrder repair = repairOrder
 
 abbrev pub order : Call → List ℕ
 order (inRoom call room) = spokenOrder call
@@ -65,6 +67,7 @@ quietRefusals r (add zone address range) = addRows r zone address range
 quietRefusals r (remove zone) = zoneRows r zone removeAt
 quietRefusals r (report zone state actual) = zoneRows r zone (reportAt (zoneAt r zone) state actual)
 quietRefusals r (apply zone command) = zoneRows r zone (commandAt (zoneAt r zone) command)
+quietRefusals r repair = repairRows r
 
 abbrev pub refusals : Record → Call → List Row
 refusals r (inRoom call room) = spokenRefusals r call room
@@ -336,7 +339,35 @@ pub record WriteStored (given : Record) (n : ℕ) (figures : Figures) (room : Li
 abbrev pub EveryWriteIsStored : Type 0
 EveryWriteIsStored = (r : Record) (calls : List Call) (n : ℕ) (figures : Figures) (room : List ℕ) → WriteStored (run r calls) n figures room
 
--- and whatever comes after: the figures of a present zone's group stay until a done write of that group to it, or its done removal. `stays-stored`, in proofs/Useless.antt
+-- and whatever comes after: the figures of a present zone's group stay until a done write of that group to it, its done removal or, of AHUE, the repair of its window. `stays-stored`, in proofs/Useless.antt
 abbrev pub StaysStored : Type 0
 StaysStored = (r : Record) (n : ℕ) (group : Group) (calls : List Call) → zoneAt r n .present ≡ true → Throughout (NotRewritten n group) r calls
     → figuresOf (zoneAt (run r calls) n) group ≡ figuresOf (zoneAt r n) group
+
+-- ---- "A window with begin not below end .. is not sound. For cards in the field a repair call" (document 02, Req 06)
+
+-- the calls that test soundness, past their room: all but composing, to which no record is handed, and the repair itself
+pub data TestsSoundness : Call → Type 0 where
+  of-text : (n : ℕ) (line room : List ℕ) → 32 ≤ length room → TestsSoundness (inRoom (text n line) room)
+  of-frame : (bytes room : List ℕ) → 32 ≤ length room → TestsSoundness (inRoom (frame bytes) room)
+  of-add : (n address range : ℕ) → TestsSoundness (quiet (add n address range))
+  of-remove : (n : ℕ) → TestsSoundness (quiet (remove n))
+  of-report : (n state actual : ℕ) → TestsSoundness (quiet (report n state actual))
+  of-apply : (n : ℕ) (command : Command) → TestsSoundness (quiet (apply n command))
+
+-- each of them, a read too, is refused with 2, in silence, where some zone has such a window, whatever zone it is meant for.
+-- `shut-gives-two`, in proofs/Unsound.antt
+abbrev pub ShutGivesTwo : Type 0
+ShutGivesTwo = (r : Record) (n : ℕ) (window : WindowFigures) (call : Call) → Shut (zoneAt r n) window → TestsSoundness call
+    → answerTo r call ≡ record { said = said 2 [] [] (lent call); after = r }
+
+-- a repair helps, where that is the only fault: it is done, and leaves a sound record. `repair-helps`, in proofs/Unsound.antt
+abbrev pub RepairHelps : Type 0
+RepairHelps = (r : Record) → otherwiseSound r ≡ true → Done r (quiet repair) × (sound (after r (quiet repair)) ≡ true)
+
+-- and nothing else does: a record that is not sound stays as it is through any session without a repair. `unsound-stays`, in proofs/Unsound.antt
+abbrev pub NoRepair : Record → Call → Type 0
+NoRepair r call = call ≡ quiet repair → ⊥
+
+abbrev pub UnsoundStays : Type 0
+UnsoundStays = (r : Record) (calls : List Call) → sound r ≡ false → Throughout NoRepair r calls → run r calls ≡ r

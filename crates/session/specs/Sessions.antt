@@ -5,7 +5,7 @@ use mathlib.Core.List.{List, [], _∷_}
 use Rattle.zone.specs.declared.figures.Command.{Command}
 use Rattle.card.specs.declared.records.Record.{Record}
 use Rattle.card.specs.Answers.{Result}
-use Rattle.card.specs.Calls.{addOf, removeOf, reportOf, applyOf}
+use Rattle.card.specs.Calls.{addOf, removeOf, reportOf, applyOf, repairOf}
 use Rattle.roads.specs.Calls.{Answered, said, answerText, answerFrame, composedLine, composedFrame}
 
 -- a call that is lent a room, and may reply in it
@@ -15,14 +15,15 @@ pub data Speaking : Type 0 where
   composeLine : Command → Speaking
   composeFrame : ℕ → Command → Speaking
 
--- a call without a room, which replies nothing; what it tells is handed back
+-- a call without a room, which replies nothing; what it tells is handed back (the old ends of a repair beside what every call hands back, in repairOf)
 pub data Quiet : Type 0 where
   add : ℕ → ℕ → ℕ → Quiet
   remove : ℕ → Quiet
   report : ℕ → ℕ → ℕ → Quiet
   apply : ℕ → Command → Quiet
+  repair : Quiet
 
--- a call that document 01 names, with its arguments and, where it has one, the room that is lent
+-- a call that document 01 or a request of document 02 names, with its arguments and, where it has one, the room that is lent
 pub data Call : Type 0 where
   inRoom : Speaking → List ℕ → Call
   quiet : Quiet → Call
@@ -39,6 +40,7 @@ resultOf r (add zone address range) = addOf r zone address range
 resultOf r (remove zone) = removeOf r zone
 resultOf r (report zone state actual) = reportOf r zone state actual
 resultOf r (apply zone command) = applyOf r zone command
+resultOf r repair = repairOf r .result
 
 abbrev pub answerTo : Record → Call → Answered
 answerTo r (inRoom call room) = answerIn r call room

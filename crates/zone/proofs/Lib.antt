@@ -4,3 +4,4 @@ pub mod Table
 pub mod Made
 pub mod Written
 pub mod Sound
+pub mod Mended

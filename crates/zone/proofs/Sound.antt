@@ -1,7 +1,7 @@
 -- Which zones are sound: the new and the empty one, and a sound one after a write or a report in range. An absent one is the empty zone. Assumes nothing.
 use Prim.Native.Nat.{ℕ}
-use mathlib.Core.Path.{_≡_, refl}
-use mathlib.Core.Bool.{true, false}
+use mathlib.Core.Path.{_≡_, refl, _∙_}
+use mathlib.Core.Bool.{true, false, and-true}
 use lib.Dec.{leb·zero}
 use borrow.Author.Tests.{eqb-true}
 use Rattle.zone.specs.declared.figures.Group.the-variants.{Ahue, Hzbg, Rrue, Solw}
@@ -15,9 +15,9 @@ use Rattle.zone.specs.declared.zones.Watch.the-variants.{Deadline, Windo
 use Rattle.zone.specs.declared.zones.Settings.{Settings}
 use Rattle.zone.specs.declared.zones.Zone.{Zone}
 use Rattle.zone.specs.Lists.{isZero}
-use Rattle.zone.specs.Figures.{inRange, allZero}
-use Rattle.zone.specs.Zones.{newZone, emptyZone, watchFigures, figuresOf, addressInRange, rangeKnown, actualInRange, isOff, isDeadline, groupsInRange, presentSound, groupsZero, holdsNothing, zoneSound, withStatus, withFigures}
-use Rattle.zone.proofs.Tests.{never, and-l, and-r}
+use Rattle.zone.specs.Figures.{eachInRange, opens, inRange, allZero}
+use Rattle.zone.specs.Zones.{newZone, emptyZone, watchFigures, figuresOf, addressInRange, rangeKnown, actualInRange, isOff, isDeadline, groupsInRange, presentSound, groupsZero, holdsNothing, zoneOtherwiseSound, windowOpens, zoneSound, withStatus, withFigures}
+use Rattle.zone.proofs.Tests.{never, both, and-l, and-r}
 
 -- the parts of a present zone's soundness, one by one
 pub record Fit (z : Zone) : Type 0 where
@@ -29,9 +29,19 @@ pub record Fit (z : Zone) : Type 0 where
   pub rrue : inRange (z .range) (figuresOf z Rrue) ≡ true
   pub solw : inRange (z .range) (figuresOf z Solw) ≡ true
 
-pub fits : (z : Zone) → z .present ≡ true → zoneSound z ≡ true → Fit z
-unfolding zoneSound
-fits z p s =
+-- without the rule: each group's figures lie each in its own range
+pub record OtherwiseFit (z : Zone) : Type 0 where
+  pub address : addressInRange (z .address) ≡ true
+  pub range : rangeKnown (z .range) ≡ true
+  pub actual : actualInRange (z .status .actual) ≡ true
+  pub ahue : eachInRange (z .range) (figuresOf z Ahue) ≡ true
+  pub hzbg : eachInRange (z .range) (figuresOf z Hzbg) ≡ true
+  pub rrue : eachInRange (z .range) (figuresOf z Rrue) ≡ true
+  pub solw : eachInRange (z .range) (figuresOf z Solw) ≡ true
+
+pub otherwise-fits : (z : Zone) → z .present ≡ true → zoneOtherwiseSound z ≡ true → OtherwiseFit z
+unfolding zoneOtherwiseSound
+otherwise-fits z p s =
     let h : presentSound z ≡ true = rw p at s in
     let groups : groupsInRange z ≡ true = search (and-l, and-r) in
     record {
@@ -44,16 +54,71 @@ fits z p s =
       solw = search (and-l, and-r);
     }
 
-pub fitting : (z : Zone) → z .present ≡ true → Fit z → zoneSound z ≡ true
+pub otherwise-fitting : (z : Zone) → z .present ≡ true → OtherwiseFit z → zoneOtherwiseSound z ≡ true
+unfolding zoneOtherwiseSound
+otherwise-fitting z p k = rw p (rw (k .address, k .range, k .actual, k .ahue, k .hzbg, k .rrue, k .solw))
+
+-- ---- the rule
+
+-- what keeps it is judged by its figures' own ranges, as it was before the rule: "proved at the zone"
+pub range-as-before : (range : ℕ) (f : Figures) → opens f ≡ true → inRange range f ≡ eachInRange range f
+unfolding inRange
+range-as-before range f e = rw e (and-true (eachInRange range f))
+
+pub sound-as-before : (z : Zone) → windowOpens z ≡ true → zoneSound z ≡ zoneOtherwiseSound z
 unfolding zoneSound
-fitting z p k = rw p (rw (k .address, k .range, k .actual, k .ahue, k .hzbg, k .rrue, k .solw))
+sound-as-before z e = rw e (and-true (zoneOtherwiseSound z))
+
+-- in range is each figure in its own, and the rule
+pub in-range-parts : (range : ℕ) (f : Figures) → inRange range f ≡ true → (eachInRange range f ≡ true) × (opens f ≡ true)
+unfolding inRange
+in-range-parts range f e = both (eachInRange range f) (opens f) e
+
+pub sound-zone-parts : (z : Zone) → zoneSound z ≡ true → (zoneOtherwiseSound z ≡ true) × (windowOpens z ≡ true)
+unfolding zoneSound
+sound-zone-parts z e = both (zoneOtherwiseSound z) (windowOpens z) e
+
+pub sound-zone : (z : Zone) → zoneOtherwiseSound z ≡ true → windowOpens z ≡ true → zoneSound z ≡ true
+sound-zone z s w = sound-as-before z w ∙ s
+
+-- ---- with the rule
+
+pub fits : (z : Zone) → z .present ≡ true → zoneSound z ≡ true → Fit z
+fits z p s =
+    let parts = sound-zone-parts z s in
+    let k = otherwise-fits z p (parts .0) in
+    record {
+      address = k .address;
+      range = k .range;
+      actual = k .actual;
+      ahue = range-as-before (z .range) (figuresOf z Ahue) (parts .1) ∙ k .ahue;
+      hzbg = range-as-before (z .range) (figuresOf z Hzbg) refl ∙ k .hzbg;
+      rrue = range-as-before (z .range) (figuresOf z Rrue) refl ∙ k .rrue;
+      solw = range-as-before (z .range) (figuresOf z Solw) refl ∙ k .solw;
+    }
+
+pub fitting : (z : Zone) → z .present ≡ true → Fit z → zoneSound z ≡ true
+fitting z p k =
+    let ahue = in-range-parts (z .range) (figuresOf z Ahue) (k .ahue) in
+    sound-zone z
+    (otherwise-fitting z p
+    (record {
+      address = k .address;
+      range = k .range;
+      actual = k .actual;
+      ahue = ahue .0;
+      hzbg = in-range-parts (z .range) (figuresOf z Hzbg) (k .hzbg) .0;
+      rrue = in-range-parts (z .range) (figuresOf z Rrue) (k .rrue) .0;
+      solw = in-range-parts (z .range) (figuresOf z Solw) (k .solw) .0;
+    }))
+    (ahue .1)
 
 pub empty-sound : zoneSound emptyZone ≡ true
-unfolding zoneSound allZero
+unfolding zoneSound zoneOtherwiseSound allZero
 empty-sound = refl
 
 pub new-sound : (address range : ℕ) → addressInRange address ≡ true → rangeKnown range ≡ true → zoneSound (newZone address range) ≡ true
-unfolding zoneSound inRange
+unfolding zoneSound zoneOtherwiseSound eachInRange
 new-sound address range a r = rw (a, r, leb·zero range)
 
 pub status-sound : (z : Zone) (s : Status) → z .present ≡ true → zoneSound z ≡ true → actualInRange (s .actual) ≡ true → zoneSound (withStatus z s) ≡ true
@@ -105,9 +170,9 @@ settings-zero s l r p =
     let setpoint : s .setpoint .setpoint ≡ 0 = zero _ (search and-l) in
     λ i. record { limit = record { time = time i }; reference = record { flag = flag i; lower = lower i; upper = upper i }; setpoint = record { setpoint = setpoint i } }
 
-pub absent-empty : (z : Zone) → z .present ≡ false → zoneSound z ≡ true → z ≡ emptyZone
-unfolding zoneSound
-absent-empty z p s =
+pub otherwise-empty : (z : Zone) → z .present ≡ false → zoneOtherwiseSound z ≡ true → z ≡ emptyZone
+unfolding zoneOtherwiseSound
+otherwise-empty z p s =
     let h : holdsNothing z ≡ true = rw p at s in
     let groups : groupsZero z ≡ true = search (and-l, and-r) in
     let address : z .address ≡ 0 = zero _ (search (and-l, and-r)) in
@@ -117,3 +182,6 @@ absent-empty z p s =
     let watch = watch-zero (z .watch) (search and-r) (search and-l) in
     let settings = settings-zero (z .settings) (search (and-l, and-r)) (search (and-l, and-r)) (search (and-l, and-r)) in
     λ i. record { present = p i; address = address i; range = range i; status = record { state = state i; actual = actual i }; watch = watch i; settings = settings i }
+
+pub absent-empty : (z : Zone) → z .present ≡ false → zoneSound z ≡ true → z ≡ emptyZone
+absent-empty z p s = otherwise-empty z p (sound-zone-parts z s .0)

@@ -1,8 +1,9 @@
 -- The figures of a group: a form of the table with a number for each of its columns.
 use Prim.Native.Nat.{ℕ}
-use mathlib.Core.Bool.{Bool}
+use mathlib.Core.Bool.{Bool, true, _&&_}
 use mathlib.Core.List.{List, [], _∷_}
 use lib.ListN.{getD}
+use lib.Dec.{ltb}
 use Rattle.zone.specs.declared.figures.Group.{Group}
 use Rattle.zone.specs.declared.figures.Figures.{Figures}
 use Rattle.zone.specs.declared.figures.Figures.the-variants.{AhueDeadline, AhueWindow, HzbgLimit, RrueReference, SolwSetpoint}
@@ -53,9 +54,21 @@ entriesOf figures = entries (layout (formOf figures) .columns) (numbers figures)
 abbrev pub fits : ℕ → Entry → Bool
 fits range e = within (e .column .lowest) (e .column .highest range) (e .number)
 
--- every figure does. "In AHUE each figure is judged by its own range only": the others need no such rule
+-- every figure does, each judged by its own range only
+unfoldable pub eachInRange : ℕ → Figures → Bool
+eachInRange range figures = every (fits range) (entriesOf figures)
+
+-- The rule of the window's row: "A window must open before it closes" (document 02, Req 06). "A window with begin not below end now gives 9 on both roads", so equal figures break it too. The other rows have no such rule
+abbrev pub opens : Figures → Bool
+opens (AhueDeadline f) = true
+opens (AhueWindow f) = ltb (f .begin) (f .end)
+opens (HzbgLimit f) = true
+opens (RrueReference f) = true
+opens (SolwSetpoint f) = true
+
+-- In range are figures that lie each in its own range, if the row's rule is kept. Document 01's "In AHUE each figure is judged by its own range only" is replaced by Req 06
 unfoldable pub inRange : ℕ → Figures → Bool
-inRange range figures = every (fits range) (entriesOf figures)
+inRange range figures = eachInRange range figures && opens figures
 
 unfoldable pub allZero : Figures → Bool
 allZero figures = every isZero (numbers figures)

@@ -5,6 +5,8 @@ use mathlib.Core.List.{List, _++_, map}
 use lib.ListN.{take, replicate}
 use Rattle.zone.specs.declared.figures.Figures.{Figures}
 use Rattle.zone.specs.declared.figures.Ranged.{Ranged}
+use Rattle.zone.specs.declared.zones.Watch.{Watch}
+use Rattle.zone.specs.declared.zones.Watch.the-variants.{Deadline, Window}
 use Rattle.zone.specs.Lists.{within}
 use Rattle.zone.specs.Figures.{Entry, entriesOf}
 
@@ -22,3 +24,8 @@ five range figures = take 5 (map (rangedOf range) (entriesOf figures) ++ replica
 -- which of the five lie in their range
 abbrev pub fiveFit : ℕ → Figures → List Bool
 fiveFit range figures = map rangedFits (five range figures)
+
+-- the begin of a window; a deadline has none
+abbrev pub beginOf : Watch → ℕ
+beginOf (Deadline f) = 0
+beginOf (Window f) = f .begin

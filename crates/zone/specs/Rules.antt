@@ -1,8 +1,11 @@
 -- Document 01's rules of what is written, as statements about a zone before and after. proofs/Written.antt proves them of the definitions: sets-figures and sets-status.
+use Prim.Native.Nat.{_≤_}
 use mathlib.Core.Path.{_≡_}
 use Rattle.zone.specs.declared.figures.Group.{Group}
 use Rattle.zone.specs.declared.figures.Figures.{Figures}
+use Rattle.zone.specs.declared.figures.WindowFigures.{WindowFigures}
 use Rattle.zone.specs.declared.status.Status.{Status}
+use Rattle.zone.specs.declared.zones.Watch.the-variants.{Window}
 use Rattle.zone.specs.declared.zones.Zone.{Zone}
 use Rattle.zone.specs.Figures.{groupOf}
 use Rattle.zone.specs.Zones.{figuresOf}
@@ -25,3 +28,8 @@ pub record SetsStatus (before : Zone) (status : Status) (after : Zone) : Type 0 
   pub head : SameHead before after
   pub reported : after .status ≡ status
   pub groups : (group : Group) → figuresOf after group ≡ figuresOf before group
+
+-- a zone with "a window with begin not below end" (document 02, Req 06)
+pub record Shut (z : Zone) (window : WindowFigures) : Type 0 where
+  pub has : z .watch ≡ Window window
+  pub not-below : window .end ≤ window .begin

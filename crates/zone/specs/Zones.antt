@@ -1,10 +1,11 @@
 -- The zone: what a new and an absent one hold, when one is sound, what is read from it and written to it.
-use Prim.Native.Nat.{ℕ}
+use Prim.Native.Nat.{ℕ, _+_}
 use mathlib.Core.Bool.{Bool, true, false, cond, _&&_, _||_}
 use lib.Dec.{leb, eqb}
 use Rattle.zone.specs.declared.figures.Group.{Group}
 use Rattle.zone.specs.declared.figures.Group.the-variants.{Ahue, Hzbg, Rrue, Solw}
 use Rattle.zone.specs.declared.figures.Figures.{Figures}
+use Rattle.zone.specs.declared.figures.WindowFigures.{WindowFigures}
 use Rattle.zone.specs.declared.figures.Figures.the-variants.{AhueDeadline, AhueWindow, HzbgLimit, RrueReference, SolwSetpoint}
 use Rattle.zone.specs.declared.status.State.{State}
 use Rattle.zone.specs.declared.status.State.the-variants.{Off, On, Calibration, Error}
@@ -15,7 +16,7 @@ use Rattle.zone.specs.declared.zones.Settings.{Settings}
 use Rattle.zone.specs.declared.zones.Zone.{Zone}
 use Rattle.zone.specs.Lists.{within, isZero, every}
 use Rattle.zone.specs.Table.{everyGroup}
-use Rattle.zone.specs.Figures.{inRange, allZero}
+use Rattle.zone.specs.Figures.{eachInRange, opens, allZero}
 
 -- "A new zone is Off with actual value 0, watch off (deadline form, lower 10, upper 10, time 10), heating limit 0, reference watch off with 10 and 10, setpoint 0"
 abbrev pub newZone : ℕ → ℕ → Zone
@@ -71,9 +72,9 @@ abbrev pub actualInRange : ℕ → Bool
 actualInRange actual = leb actual 999
 
 abbrev pub groupsInRange : Zone → Bool
-groupsInRange z = every (λ group. inRange (z .range) (figuresOf z group)) everyGroup
+groupsInRange z = every (λ group. eachInRange (z .range) (figuresOf z group)) everyGroup
 
--- "every figure of every present zone lies in its range"; of the state there is nothing to test, since the type has just the four
+-- "every figure of every present zone lies in its range", each judged by its own; of the state there is nothing to test, since the type has just the four
 abbrev pub presentSound : Zone → Bool
 presentSound z = addressInRange (z .address) && rangeKnown (z .range) && actualInRange (z .status .actual) && groupsInRange z
 
@@ -94,9 +95,17 @@ groupsZero z = every (λ group. allZero (figuresOf z group)) everyGroup
 abbrev pub holdsNothing : Zone → Bool
 holdsNothing z = isZero (z .address) && isZero (z .range) && isZero (z .status .actual) && groupsZero z && isOff (z .status .state) && isDeadline (z .watch)
 
--- what a sound record asks of each of its zones
+-- what document 01 asks of each zone of a sound record: soundness without the rule that a window opens before it closes
+unfoldable pub zoneOtherwiseSound : Zone → Bool
+zoneOtherwiseSound z = cond (z .present) (presentSound z) (holdsNothing z)
+
+-- that rule, of the zone's watch. An absent zone, whose watch is a deadline, keeps it anyway
+abbrev pub windowOpens : Zone → Bool
+windowOpens z = opens (figuresOf z Ahue)
+
+-- "A window with begin not below end .. is not sound" (document 02, Req 06): what a sound record asks of each of its zones
 unfoldable pub zoneSound : Zone → Bool
-zoneSound z = cond (z .present) (presentSound z) (holdsNothing z)
+zoneSound z = zoneOtherwiseSound z && windowOpens z
 
 -- ---- what is written
 
@@ -134,3 +143,22 @@ locks Off group = false
 locks On group = lockable group
 locks Calibration group = lockable group
 locks Error group = false
+
+-- ---- what is mended
+
+-- "a repair call sets the end to begin + 1 in each such zone .. and touches nothing else" (document 02, Req 06)
+abbrev pub opened : WindowFigures → WindowFigures
+opened f = record { flag = f .flag; lower = f .lower; upper = f .upper; begin = f .begin; end = f .begin + 1 }
+
+abbrev pub openedWatch : Watch → Watch
+openedWatch (Deadline f) = Deadline f
+openedWatch (Window f) = Window (opened f)
+
+-- "such a zone" is one whose window does not open before it closes; any other stays as it is
+abbrev pub mended : Zone → Zone
+mended z = cond (windowOpens z) z (withWatch z (openedWatch (z .watch)))
+
+-- the end of a zone's window; a zone without one has none, told as 0
+abbrev pub endOf : Watch → ℕ
+endOf (Deadline f) = 0
+endOf (Window f) = f .end

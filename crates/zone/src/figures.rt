@@ -1,6 +1,6 @@
 // The command groups, the figures of each, and the commands that carry them.
 ghost use mathlib.Core.Path.{_≡_};
-ghost use Rattle.zone.specs.Figures.{groupOf, inRange, allZero};
+ghost use Rattle.zone.specs.Figures.{groupOf, eachInRange, opens, inRange, allZero};
 ghost use Rattle.zone.specs.Lists.{within};
 ghost use Rattle.zone.specs.Inner.{five, fiveFit};
 ghost use Rattle.zone.specs.Zones.{lockable};
@@ -154,11 +154,31 @@ impl Figures {
     }
 
     // Each figure lies in its own range, in a zone of that temperature range.
-    pub fn in_range(self, range: u32) -> bool
-        ensures { λ r. ⌜ r ≡ inRange range self ⌝ }
+    pub fn each_in_range(self, range: u32) -> bool
+        ensures { λ r. ⌜ r ≡ eachInRange range self ⌝ }
     {
         let fits = self.fits(range);
         fits[0] & fits[1] & fits[2] & fits[3] & fits[4]
+    }
+
+    // A window opens before it closes; the other forms have no such rule.
+    pub fn opens(self) -> bool
+        ensures { λ r. ⌜ r ≡ opens self ⌝ }
+    {
+        match self {
+            Figures::AhueDeadline(_) => true,
+            Figures::AhueWindow(f) => f.begin < f.end,
+            Figures::HzbgLimit(_) => true,
+            Figures::RrueReference(_) => true,
+            Figures::SolwSetpoint(_) => true,
+        }
+    }
+
+    // Both: what a write has to be.
+    pub fn in_range(self, range: u32) -> bool
+        ensures { λ r. ⌜ r ≡ inRange range self ⌝ }
+    {
+        self.each_in_range(range) & self.opens()
     }
 
     pub fn all_zero(self) -> bool

@@ -10,7 +10,10 @@ use crate::status::State;
 use crate::status::Status;
 use crate::status::actual_in_range;
 ghost use mathlib.Core.Path.{_≡_};
-ghost use Rattle.zone.specs.Zones.{watchFigures, figuresOf, newZone, emptyZone, addressInRange, rangeKnown, groupsInRange, presentSound, isDeadline, groupsZero, holdsNothing, zoneSound, holds, withStatus, withWatch, withSettings, withFigures};
+ghost use mathlib.Core.Bool.{true};
+ghost use Prim.Native.Nat.{_<_};
+ghost use Rattle.zone.specs.Inner.{beginOf};
+ghost use Rattle.zone.specs.Zones.{watchFigures, figuresOf, newZone, emptyZone, addressInRange, rangeKnown, groupsInRange, presentSound, isDeadline, groupsZero, holdsNothing, zoneOtherwiseSound, windowOpens, holds, withStatus, withWatch, withSettings, withFigures, openedWatch, mended, endOf};
 
 // The heating watch: a deadline or a window, each with its own figures.
 pub enum Watch {
@@ -50,6 +53,32 @@ impl Watch {
         match self {
             Watch::Deadline(_) => true,
             Watch::Window(_) => false,
+        }
+    }
+
+    // A window ends one after its begin; a deadline stays as it is.
+    fn opened(self) -> Watch
+        requires { ⌜ beginOf self < 999 ⌝ }
+        ensures { λ r. ⌜ r ≡ openedWatch self ⌝ }
+    {
+        match self {
+            Watch::Deadline(f) => Watch::Deadline(f),
+            Watch::Window(f) => Watch::Window(WindowFigures {
+                flag: f.flag,
+                lower: f.lower,
+                upper: f.upper,
+                begin: f.begin,
+                end: f.begin + 1,
+            }),
+        }
+    }
+
+    fn end(self) -> u32
+        ensures { λ r. ⌜ r ≡ endOf self ⌝ }
+    {
+        match self {
+            Watch::Deadline(_) => 0,
+            Watch::Window(f) => f.end,
         }
     }
 }
@@ -211,9 +240,37 @@ impl Zone {
         self
     }
 
-    // A present zone has every figure in its range, and an absent one is empty.
-    pub fn is_sound(self) -> bool
-        ensures { λ r. ⌜ r ≡ zoneSound self ⌝ }
+    // A window opens before it closes.
+    pub fn window_opens(self) -> bool
+        ensures { λ r. ⌜ r ≡ windowOpens self ⌝ }
+    {
+        self.figures(Group::Ahue).opens()
+    }
+
+    // The end of the zone's window; 0 where it has none.
+    pub fn window_end(self) -> u32
+        ensures { λ r. ⌜ r ≡ endOf (self .watch) ⌝ }
+    {
+        let watch = self.watch;
+        watch.end()
+    }
+
+    // The zone with the end of a window that does not open before it closes set to its begin + 1.
+    pub fn mended(self) -> Zone
+        requires { ⌜ zoneOtherwiseSound self ≡ true ⌝ }
+        ensures { λ r. ⌜ r ≡ mended self ⌝ }
+    {
+        if self.window_opens() {
+            return self;
+        }
+        let watch = self.watch;
+        self.with_watch(watch.opened())
+    }
+
+    // Soundness without that rule: a present zone has every figure in its own range, and an absent
+    // one is empty.
+    pub fn is_otherwise_sound(self) -> bool
+        ensures { λ r. ⌜ r ≡ zoneOtherwiseSound self ⌝ }
     {
         if self.present {
             self.figures_sound()
@@ -236,10 +293,10 @@ impl Zone {
         ensures { λ r. ⌜ r ≡ groupsInRange self ⌝ }
     {
         let range = self.range;
-        self.figures(Group::Ahue).in_range(range)
-            & self.figures(Group::Hzbg).in_range(range)
-            & self.figures(Group::Rrue).in_range(range)
-            & self.figures(Group::Solw).in_range(range)
+        self.figures(Group::Ahue).each_in_range(range)
+            & self.figures(Group::Hzbg).each_in_range(range)
+            & self.figures(Group::Rrue).each_in_range(range)
+            & self.figures(Group::Solw).each_in_range(range)
     }
 
     fn is_empty(self) -> bool

@@ -1,6 +1,5 @@
 -- Each arm is the definition's clause.
 use native.Mathlib.Omega.{arith}
-use Rattle.saying.specs.Saying.{rangeMissed}
 use Rattle.saying.proofs.Growing.{none}
 use borrow.Author.Needs.{needs}
 use Rattle.saying.proofs.saying.append_missed_in.Statement.{statement}
@@ -13,15 +12,12 @@ returns c =
     (rw (q .before .before .before .parsed .given .1, q .command .given .1) (p .append-missed .ensures .0), p .append-missed .ensures .1)
 
 returns-2 : tie.Need-returns-2
-unfolding rangeMissed
 returns-2 c = (rw (c .before .before .before .parsed .given .1, c .enum-told .given .1) (none _ _), omega arith)
 
 returns-3 : tie.Need-returns-3
-unfolding rangeMissed
 returns-3 c = (rw (c .enum-told2 .given .1) (none _ _), omega arith)
 
 returns-4 : tie.Need-returns-4
-unfolding rangeMissed
 returns-4 c = (rw (c .enum-told3 .given .1) (none _ _), omega arith)
 
 pub append-missed-in-spec : {M : Type 1} → statement M

@@ -1,35 +1,12 @@
--- All five tests pass exactly where those of the row's entries do.
-use mathlib.Core.Path.{_≡_}
-use mathlib.Core.Bool.{false, _&&_, and-assoc, and-true}
-use Prim.Native.Nat.{ℕ}
-use lib.ListN.{getD}
-use Rattle.zone.specs.declared.figures.Figures.{Figures}
-use Rattle.zone.specs.declared.figures.Figures.the-variants.{AhueDeadline, AhueWindow, HzbgLimit, RrueReference, SolwSetpoint}
+-- The two tests are the definition's.
 use Rattle.zone.specs.Figures.{inRange}
-use Rattle.zone.specs.Inner.{fiveFit}
 use borrow.Author.Needs.{needs}
 use Rattle.zone.proofs.figures.Figures.in_range.Statement.{statement}
 use Rattle.zone.proofs.figures.Figures.in_range.Tie as tie
 
-all-five : (range : ℕ) (f : Figures) → ((((getD (fiveFit range f) 0 false && getD (fiveFit range f) 1 false) && getD (fiveFit range f) 2 false) && getD (fiveFit range f) 3 false) && getD (fiveFit range f) 4 false) ≡ inRange range f
-unfolding inRange
-all-five range (AhueDeadline f) = simp (and-assoc, and-true)
-all-five range (AhueWindow f) = simp (and-assoc, and-true)
-all-five range (HzbgLimit f) = simp (and-assoc, and-true)
-all-five range (RrueReference f) = simp (and-assoc, and-true)
-all-five range (SolwSetpoint f) = simp (and-assoc, and-true)
-
 returns : tie.Need-returns
-returns c = rw (c .fits2 .ensures) (all-five _ _)
+unfolding inRange
+returns c = rw (c .opens .ensures, c .before .each-in-range .ensures)
 
 pub in-range-spec : {M : Type 1} → statement M
-in-range-spec =
-    tie.close
-    (tie.spec
-    (λ c κs. search needs)
-    (λ c. search needs)
-    (λ c. search needs)
-    (λ c. search needs)
-    (λ c. search needs)
-    (λ c. search needs)
-    returns)
+in-range-spec = tie.close (tie.spec (λ c κs. search needs) (λ c κs. search needs) returns)

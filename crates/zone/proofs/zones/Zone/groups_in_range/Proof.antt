@@ -1,6 +1,6 @@
 -- The four tests are the definition's over every group.
 use mathlib.Core.Path.{_∙_, ap}
-use Rattle.zone.specs.Figures.{inRange}
+use Rattle.zone.specs.Figures.{eachInRange}
 use Rattle.zone.specs.Zones.{figuresOf}
 use Rattle.zone.proofs.Groups.{each-group}
 use borrow.Author.Needs.{needs}
@@ -14,15 +14,15 @@ returns c =
     let c1 = c2 .before .before in
     let z = c1 .before .before .args .self in
     each-group
-    (λ group. inRange (z .range) (figuresOf z group))
-    (c1 .in-range .result)
-    (c2 .in-range2 .result)
-    (c3 .in-range3 .result)
-    (c .in-range4 .result)
-    (c1 .in-range .ensures ∙ ap (inRange (z .range)) (c1 .before .figures .ensures))
-    (c2 .in-range2 .ensures ∙ ap (inRange (z .range)) (c2 .before .figures2 .ensures))
-    (c3 .in-range3 .ensures ∙ ap (inRange (z .range)) (c3 .before .figures3 .ensures))
-    (c .in-range4 .ensures ∙ ap (inRange (z .range)) (c .before .figures4 .ensures))
+    (λ group. eachInRange (z .range) (figuresOf z group))
+    (c1 .each-in-range .result)
+    (c2 .each-in-range2 .result)
+    (c3 .each-in-range3 .result)
+    (c .each-in-range4 .result)
+    (c1 .each-in-range .ensures ∙ ap (eachInRange (z .range)) (c1 .before .figures .ensures))
+    (c2 .each-in-range2 .ensures ∙ ap (eachInRange (z .range)) (c2 .before .figures2 .ensures))
+    (c3 .each-in-range3 .ensures ∙ ap (eachInRange (z .range)) (c3 .before .figures3 .ensures))
+    (c .each-in-range4 .ensures ∙ ap (eachInRange (z .range)) (c .before .figures4 .ensures))
 
 pub groups-in-range-spec : {M : Type 1} → statement M
 groups-in-range-spec =

@@ -1,0 +1,219 @@
+-- What a repair comes to: exactly when it is refused, what it sets, keeps and tells, and that it leaves a sound record. Assumes nothing.
+use Prim.Native.Nat.{ℕ, zero, suc, _+_}
+use mathlib.Core.Path.{_≡_, refl, sym, ap, _∙_}
+use mathlib.Core.Logic.{_↔_, inl, inr}
+use mathlib.Core.Bool.{Bool, true, false, cond}
+use mathlib.Core.List.{List, [], _∷_, map}
+use native.Mathlib.Omega.{arith}
+use lib.ListN.{getD, length-map}
+use lib.Seq.{take-append-seam}
+use borrow.Author.Tests.{not-false}
+use Rattle.zone.specs.declared.figures.Figures.the-variants.{AhueWindow}
+use Rattle.zone.specs.declared.figures.WindowFigures.{WindowFigures}
+use Rattle.zone.specs.declared.zones.Zone.{Zone}
+use Rattle.zone.specs.Lists.{every}
+use Rattle.zone.specs.Zones.{emptyZone, zoneOtherwiseSound, windowOpens, opened, mended, endOf}
+use Rattle.zone.specs.Rules.{SetsFigures, Shut}
+use Rattle.zone.proofs.Tests.{never, both}
+use Rattle.zone.proofs.Sound.{empty-sound, sound-zone-parts}
+use Rattle.zone.proofs.Mended.{window-present, by-window, shut-breaks, mended-same, mended-sets, mended-present, mended-address, mended-opens, mended-otherwise}
+use Rattle.card.specs.declared.records.Record.{Record}
+use Rattle.card.specs.declared.records.OldEnd.{OldEnd}
+use Rattle.card.specs.Refusals.{first}
+use Rattle.card.specs.Records.{zoneAt, heldIn, differ, otherwiseSound, sound}
+use Rattle.card.specs.Calls.{repairRows, allMended, oldEndsFrom, inPlaces, repairOf}
+use Rattle.card.specs.Rules.{ExactlyWhen, numbersIn, repairOrder, toldIn, Tells, Rising, Mends, leaves}
+use Rattle.card.proofs.Rows.{exactly}
+use Rattle.card.proofs.Storing.{every-at, otherwise-parts, otherwise-whole, sound-both, both-sound}
+
+-- ---- when it is refused
+
+pub repair-order : (r : Record) → numbersIn (repairRows r) ≡ repairOrder
+repair-order r = refl
+
+pub repair-exactly : (r : Record) → ExactlyWhen (repairRows r) (repairOf r .result .number)
+unfolding repairOf
+repair-exactly r = exactly (repairRows r) refl
+
+-- 2 exactly where there is another fault
+pub repair-done : (r : Record) → repairOf r .result .number ≡ 0 → otherwiseSound r ≡ true
+repair-done r e = not-false (otherwiseSound r) (repair-exactly r .done .0 e 0)
+
+pub repair-goes : (r : Record) → otherwiseSound r ≡ true → repairOf r .result .number ≡ 0
+unfolding repairOf
+repair-goes r s = rw s
+
+done-after : (r : Record) → otherwiseSound r ≡ true → repairOf r .result .after ≡ allMended r
+unfolding repairOf
+done-after r s = rw s
+
+done-told : (r : Record) → otherwiseSound r ≡ true → repairOf r .told ≡ inPlaces (oldEndsFrom 0 (r .zones))
+unfolding repairOf
+done-told r s = rw s
+
+pub repair-refused : (r : Record) → (repairOf r .result .number ≡ 0 → ⊥) → repairOf r ≡ leaves r 2
+unfolding repairOf
+repair-refused r u = by-fault (otherwiseSound r) refl u
+  where
+    by-fault : (t : Bool) → otherwiseSound r ≡ t → (first (repairRows r) ≡ 0 → ⊥) → repairOf r ≡ leaves r 2
+    by-fault true e u = absurd (u (rw e))
+    by-fault false e u = rw e
+
+-- ---- zone by zone
+
+mended-at : (zs : List Zone) (n : ℕ) → getD (map mended zs) n emptyZone ≡ mended (getD zs n emptyZone)
+mended-at [] n = refl
+mended-at (z ∷ zs) zero = refl
+mended-at (z ∷ zs) (suc n) = mended-at zs n
+
+after-at : (r : Record) (n : ℕ) → repairOf r .result .number ≡ 0 → zoneAt (repairOf r .result .after) n ≡ mended (zoneAt r n)
+after-at r n e = ap (λ (x : Record). zoneAt x n) (done-after r (repair-done r e)) ∙ mended-at (r .zones) n
+
+-- a zone that is mended is present
+pub shut-present : (r : Record) (n : ℕ) (f : WindowFigures) → repairOf r .result .number ≡ 0 → Shut (zoneAt r n) f → zoneAt r n .present ≡ true
+shut-present r n f e s =
+    let empty = sound-zone-parts emptyZone empty-sound .0 in
+    window-present (zoneAt r n) f (every-at zoneOtherwiseSound (r .zones) n emptyZone empty (otherwise-parts r (repair-done r e) .zones)) (s .has)
+
+-- a record with such a window is not sound
+pub shut-unsound : (r : Record) (n : ℕ) (f : WindowFigures) → Shut (zoneAt r n) f → sound r ≡ false
+shut-unsound r n f s = by-test (sound r) refl
+  where
+    by-test : (t : Bool) → sound r ≡ t → t ≡ false
+    by-test true e = never (sym (shut-breaks (zoneAt r n) f s) ∙ every-at windowOpens (r .zones) n emptyZone refl (sound-both r e .1))
+    by-test false e = refl
+
+-- ---- what is told
+
+-- zone n, counted from k, has such a window, with that end
+record Found (k : ℕ) (zs : List Zone) (n end : ℕ) : Type 0 where
+  i : ℕ
+  place : n ≡ k + i
+  window : WindowFigures
+  shut : Shut (getD zs i emptyZone) window
+  was : window .end ≡ end
+
+end-of : (z : Zone) (f : WindowFigures) → Shut z f → endOf (z .watch) ≡ f .end
+end-of z f s = ap endOf (s .has)
+
+later : (k : ℕ) (z : Zone) (zs : List Zone) (n end : ℕ) → Found (suc k) zs n end → Found k (z ∷ zs) n end
+later k z zs n end f = record { i = suc (f .i); place = omega (arith, f .place); window = f .window; shut = f .shut; was = f .was }
+
+told-found : (k : ℕ) (zs : List Zone) (n end : ℕ) → Tells (oldEndsFrom k zs) n end → Found k zs n end
+unfolding oldEndsFrom
+told-found k [] n end t = absurd t
+told-found k (z ∷ zs) n end t = by-test (windowOpens z) refl t (told-found (suc k) zs n end)
+  where
+    here : windowOpens z ≡ false → _≡_ {A = OldEnd} (record { zone = k; end = endOf (z .watch) }) (record { zone = n; end = end }) → Found k (z ∷ zs) n end
+    here e q =
+        by-window z
+        (λ w. never (sym e ∙ w))
+        (λ f s.
+        record { i = 0; place = omega (arith, ap (λ (x : OldEnd). x .zone) q); window = f; shut = s; was = sym (end-of z f s) ∙ ap (λ (x : OldEnd). x .end) q })
+
+    by-test : (t : Bool) → windowOpens z ≡ t
+        → Tells (cond t (oldEndsFrom (suc k) zs) (record { zone = k; end = endOf (z .watch) } ∷ oldEndsFrom (suc k) zs)) n end
+        → (Tells (oldEndsFrom (suc k) zs) n end → Found (suc k) zs n end) → Found k (z ∷ zs) n end
+    by-test true e t rest = later k z zs n end (rest t)
+    by-test false e (inl q) rest = here e q
+    by-test false e (inr t) rest = later k z zs n end (rest t)
+
+found-told : (k : ℕ) (zs : List Zone) (n end i : ℕ) (f : WindowFigures) → n ≡ k + i → Shut (getD zs i emptyZone) f → f .end ≡ end → Tells (oldEndsFrom k zs) n end
+unfolding oldEndsFrom
+found-told k [] n end i f p s w = never (sym (shut-breaks emptyZone f s))
+found-told k (z ∷ zs) n end zero f p s w =
+    let here : k ≡ n = omega (arith, p) in
+    let was = end-of z f s ∙ w in
+    rw (shut-breaks z f s) (inl (λ j. record { zone = here j; end = was j }))
+found-told k (z ∷ zs) n end (suc i) f p s w = by-test (windowOpens z) (found-told (suc k) zs n end i f (omega (arith, p)) s w)
+  where
+    by-test : (t : Bool) → Tells (oldEndsFrom (suc k) zs) n end → Tells (cond t (oldEndsFrom (suc k) zs) (record { zone = k; end = endOf (z .watch) } ∷ oldEndsFrom (suc k) zs)) n end
+    by-test true t = t
+    by-test false t = inr t
+
+rises : (k : ℕ) (zs : List Zone) → Rising (oldEndsFrom k zs)
+unfolding oldEndsFrom
+rises k [] = tt
+rises k (z ∷ zs) = by-test (windowOpens z) (rises (suc k) zs)
+  where
+    by-test : (t : Bool) → Rising (oldEndsFrom (suc k) zs) → Rising (cond t (oldEndsFrom (suc k) zs) (record { zone = k; end = endOf (z .watch) } ∷ oldEndsFrom (suc k) zs))
+    by-test true h = h
+    by-test false h = (λ n end t. omega (arith, told-found (suc k) zs n end t .place), h)
+
+told-list : (l : List OldEnd) → toldIn (inPlaces l) ≡ l
+told-list l = take-append-seam l _
+
+-- ---- what is handed back is sound
+
+every-mended : (zs : List Zone) → every zoneOtherwiseSound zs ≡ true → every zoneOtherwiseSound (map mended zs) ≡ true
+every-mended [] s = refl
+every-mended (z ∷ zs) s =
+    let parts = both (zoneOtherwiseSound z) (every zoneOtherwiseSound zs) s in
+    rw (mended-otherwise z (parts .0), every-mended zs (parts .1))
+
+open-mended : (zs : List Zone) → every windowOpens (map mended zs) ≡ true
+open-mended [] = refl
+open-mended (z ∷ zs) = rw (mended-opens z) (open-mended zs)
+
+held-mended : (zs : List Zone) (a : ℕ) → heldIn (map mended zs) a ≡ heldIn zs a
+held-mended [] a = refl
+held-mended (z ∷ zs) a = rw (mended-present z, mended-address z, held-mended zs a)
+
+differ-mended : (zs : List Zone) → differ (map mended zs) ≡ differ zs
+unfolding differ
+differ-mended [] = refl
+differ-mended (z ∷ zs) = rw (mended-present z, mended-address z, held-mended zs (z .address), differ-mended zs)
+
+mended-sound : (r : Record) → otherwiseSound r ≡ true → sound (allMended r) ≡ true
+mended-sound r s =
+    let k = otherwise-parts r s in
+    both-sound (allMended r)
+    (otherwise-whole (allMended r) (record { sixteen = length-map (r .zones) mended ∙ k .sixteen; zones = every-mended (r .zones) (k .zones); addresses = differ-mended (r .zones) ∙ k .addresses }))
+    (open-mended (r .zones))
+
+-- ---- all of it
+
+pub repair-mends : (r : Record) → repairOf r .result .number ≡ 0 → Mends r (repairOf r)
+repair-mends r e = record { ends = ends; others = others; told = told; rising = rw told-is (rises 0 (r .zones)); sound-after = rw (done-after r (repair-done r e)) (mended-sound r (repair-done r e)) }
+  where
+    told-is : toldIn (repairOf r .told) ≡ oldEndsFrom 0 (r .zones)
+    told-is = ap toldIn (done-told r (repair-done r e)) ∙ told-list (oldEndsFrom 0 (r .zones))
+
+    ends : (n : ℕ) (f : WindowFigures) → Shut (zoneAt r n) f → SetsFigures (zoneAt r n) (AhueWindow (opened f)) (zoneAt (repairOf r .result .after) n)
+    ends n f s = rw (after-at r n e) (mended-sets (zoneAt r n) f s)
+
+    others : (n : ℕ) → ((f : WindowFigures) → Shut (zoneAt r n) f → ⊥) → zoneAt (repairOf r .result .after) n ≡ zoneAt r n
+    others n u = after-at r n e ∙ by-window (zoneAt r n) (mended-same (zoneAt r n)) (λ f s. absurd (u f s))
+
+    found-there : (n end : ℕ) → Found 0 (r .zones) n end → (window : WindowFigures) × Shut (zoneAt r n) window × (window .end ≡ end)
+    found-there n end f =
+        let p : n ≡ f .i = omega (arith, f .place) in
+        (f .window, rw p (f .shut), f .was)
+
+    told : (n end : ℕ) → Tells (toldIn (repairOf r .told)) n end ↔ ((window : WindowFigures) × Shut (zoneAt r n) window × (window .end ≡ end))
+    told n end = rw told-is ((λ t. found-there n end (told-found 0 (r .zones) n end t)), (λ k. found-told 0 (r .zones) n end n (k .0) (omega arith) (k .1) (k .2)))
+
+-- ---- a sound record
+
+mended-none : (zs : List Zone) → every windowOpens zs ≡ true → map mended zs ≡ zs
+mended-none [] w = refl
+mended-none (z ∷ zs) w =
+    let parts = both (windowOpens z) (every windowOpens zs) w in
+    rw (mended-same z (parts .0), mended-none zs (parts .1))
+
+told-none : (k : ℕ) (zs : List Zone) → every windowOpens zs ≡ true → oldEndsFrom k zs ≡ []
+unfolding oldEndsFrom
+told-none k [] w = refl
+told-none k (z ∷ zs) w =
+    let parts = both (windowOpens z) (every windowOpens zs) w in
+    rw (parts .0) (told-none (suc k) zs (parts .1))
+
+pub repair-of-sound : (r : Record) → sound r ≡ true → repairOf r ≡ leaves r 0
+unfolding repairOf
+repair-of-sound r s =
+    let parts = sound-both r s in
+    rw (parts .0, mended-none (r .zones) (parts .1), told-none 0 (r .zones) (parts .1))
+
+-- so a second repair alters and tells nothing
+pub repair-again : (r : Record) → repairOf r .result .number ≡ 0 → repairOf (repairOf r .result .after) ≡ leaves (repairOf r .result .after) 0
+repair-again r e = repair-of-sound (repairOf r .result .after) (repair-mends r e .sound-after)
