@@ -4,18 +4,21 @@ use mathlib.Core.Bool.{true, false}
 use mathlib.Core.List.{[], _∷_}
 use lib.ListN.{length}
 use borrow.Author.Tests.{le-ltb, not-false}
+use Rattle.zone.specs.declared.figures.Figures.the-variants.{AhueWindow}
 use Rattle.zone.proofs.Tests.{never}
+use Rattle.zone.proofs.Mended.{shut-out}
 use Rattle.card.specs.declared.records.Record.{Record}
-use Rattle.card.specs.Records.{sound}
+use Rattle.card.specs.Records.{zoneAt, sound}
 use Rattle.card.specs.Calls.{addOf, removeOf, reportOf, applyOf}
 use Rattle.card.proofs.Kept.{add-exactly, remove-exactly, report-exactly, apply-exactly}
 use Rattle.card.proofs.Repairs.{shut-unsound, repair-goes, repair-mends}
 use Rattle.roads.specs.Acknowledgements.{textReply, frameReply}
 use Rattle.roads.specs.Calls.{said, answerText, answerFrame}
 use Rattle.session.specs.Sessions.{text, frame, composeLine, composeFrame, add, remove, report, apply, repair, Call, inRoom, quiet, answerTo, after, Done}
-use Rattle.session.specs.Demands.{lent, TestsSoundness, of-text, of-frame, of-add, of-remove, of-report, of-apply, ShutGivesTwo, RepairHelps, NoRepair, UnsoundStays}
+use Rattle.session.specs.Demands.{lent, TestsSoundness, of-text, of-frame, of-add, of-remove, of-report, of-apply, writeNumber, ShutGivesNine, ShutGivesTwo, RepairHelps, NoRepair, UnsoundStays}
 use Rattle.session.proofs.Answering.{record-kept, by-done}
 use Rattle.session.proofs.Done.{line-is-done, frame-is-done}
+use Rattle.session.proofs.Demand2.{judged}
 
 unsound-two : (r : Record) (call : Call) → sound r ≡ false → TestsSoundness call → answerTo r call ≡ record { said = said 2 [] [] (lent call); after = r }
 unfolding answerText textReply answerFrame frameReply addOf removeOf reportOf applyOf
@@ -28,6 +31,16 @@ unsound-two r call s (of-apply n command) = rw s
 
 pub shut-gives-two : ShutGivesTwo
 shut-gives-two r n window call s t = unsound-two r call (shut-unsound r n window s) t
+
+-- ---- a write of such a window
+
+pub shut-gives-nine : ShutGivesNine
+shut-gives-nine r n f room h p k =
+    let w = judged r n (AhueWindow f) room p k in
+    let nine : writeNumber (zoneAt r n) (AhueWindow f) ≡ 9 = rw (shut-out (zoneAt r n .range) f h) in
+    record { applied = w .applied ∙ nine; by-line = λ c. w .by-line c ∙ nine; by-frame = λ c. w .by-frame c ∙ nine }
+
+-- ---- the repair
 
 pub repair-helps : RepairHelps
 repair-helps r s = let d = repair-goes r s in (d, repair-mends r d .sound-after)

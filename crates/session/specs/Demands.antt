@@ -9,6 +9,7 @@ use lib.ListN.{length, getD, set}
 use lib.Dec.{eqb, ltb}
 use Rattle.zone.specs.declared.figures.Group.{Group}
 use Rattle.zone.specs.declared.figures.Figures.{Figures}
+use Rattle.zone.specs.declared.figures.Figures.the-variants.{AhueWindow}
 use Rattle.zone.specs.declared.figures.WindowFigures.{WindowFigures}
 use Rattle.zone.specs.declared.figures.Command.{Command}
 use Rattle.zone.specs.declared.figures.Command.the-variants.{Read, Write}
@@ -344,7 +345,17 @@ abbrev pub StaysStored : Type 0
 StaysStored = (r : Record) (n : ℕ) (group : Group) (calls : List Call) → zoneAt r n .present ≡ true → Throughout (NotRewritten n group) r calls
     → figuresOf (zoneAt (run r calls) n) group ≡ figuresOf (zoneAt r n) group
 
--- ---- "A window with begin not below end .. is not sound. For cards in the field a repair call" (document 02, Req 06)
+-- ---- "A window must open before it closes", and "for cards in the field a repair call" (document 02, Req 06)
+
+-- "A window with begin not below end now gives 9 on both roads": whatever its other figures and whatever the state, sent to a present zone of a sound record, with room of 32 bytes, by a road that can carry it
+pub record GivesNine (r : Record) (n : ℕ) (window : WindowFigures) (room : List ℕ) : Type 0 where
+  pub applied : answerTo r (quiet (apply n (Write (AhueWindow window)))) .said .number ≡ 9
+  pub by-line : carriesCommand textRoad (Write (AhueWindow window)) ≡ true → answerText r n (lineOf (Write (AhueWindow window))) room .said .number ≡ 9
+  pub by-frame : carriesCommand frameRoad (Write (AhueWindow window)) ≡ true → answerFrame r (frameOf (zoneAt r n .address) (Write (AhueWindow window))) room .said .number ≡ 9
+
+-- `shut-gives-nine`, in proofs/Unsound.antt
+abbrev pub ShutGivesNine : Type 0
+ShutGivesNine = (r : Record) (n : ℕ) (window : WindowFigures) (room : List ℕ) → window .end ≤ window .begin → Present r n → 32 ≤ length room → GivesNine r n window room
 
 -- the calls that test soundness, past their room: all but composing, to which no record is handed, and the repair itself
 pub data TestsSoundness : Call → Type 0 where
@@ -355,7 +366,7 @@ pub data TestsSoundness : Call → Type 0 where
   of-report : (n state actual : ℕ) → TestsSoundness (quiet (report n state actual))
   of-apply : (n : ℕ) (command : Command) → TestsSoundness (quiet (apply n command))
 
--- each of them, a read too, is refused with 2, in silence, where some zone has such a window, whatever zone it is meant for.
+-- "and is not sound": each of them, a read too, is refused with 2, in silence, where some zone has such a window, whatever zone it is meant for.
 -- `shut-gives-two`, in proofs/Unsound.antt
 abbrev pub ShutGivesTwo : Type 0
 ShutGivesTwo = (r : Record) (n : ℕ) (window : WindowFigures) (call : Call) → Shut (zoneAt r n) window → TestsSoundness call

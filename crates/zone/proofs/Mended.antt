@@ -1,5 +1,5 @@
 -- A zone whose only fault is its window, mended: it is sound, and nothing but the window's end is altered. Assumes nothing.
-use Prim.Native.Nat.{ℕ, _+_, _<_}
+use Prim.Native.Nat.{ℕ, _+_, _≤_, _<_}
 use mathlib.Core.Path.{_≡_, refl, sym, ap, _∙_}
 use mathlib.Core.Bool.{Bool, true, false}
 use native.Mathlib.Omega.{arith}
@@ -10,11 +10,11 @@ use Rattle.zone.specs.declared.figures.WindowFigures.{WindowFigures}
 use Rattle.zone.specs.declared.zones.Watch.{Watch}
 use Rattle.zone.specs.declared.zones.Watch.the-variants.{Deadline, Window}
 use Rattle.zone.specs.declared.zones.Zone.{Zone}
-use Rattle.zone.specs.Figures.{eachInRange, opens}
+use Rattle.zone.specs.Figures.{eachInRange, opens, inRange}
 use Rattle.zone.specs.Zones.{watchFigures, isDeadline, zoneOtherwiseSound, windowOpens, withWatch, opened, openedWatch, mended}
-use Rattle.zone.specs.Rules.{SetsFigures, Shut}
+use Rattle.zone.specs.Rules.{SetsFigures, Shut, RuleBroken}
 use Rattle.zone.specs.Inner.{beginOf}
-use Rattle.zone.proofs.Tests.{never, and-l, and-r}
+use Rattle.zone.proofs.Tests.{never, and-l, and-r, and-false}
 use Rattle.zone.proofs.Sound.{otherwise-fits, otherwise-fitting, otherwise-empty}
 use Rattle.zone.proofs.Written.{sets-figures}
 
@@ -75,6 +75,14 @@ shut-breaks z f s = ap (λ (x : Watch). opens (watchFigures x)) (s .has) ∙ le-
 
 pub not-shut : (z : Zone) (f : WindowFigures) → windowOpens z ≡ true → Shut z f → ⊥
 not-shut z f w s = never (sym (shut-breaks z f s) ∙ w)
+
+pub rule-broken : RuleBroken
+rule-broken z = ((λ e. by-window z (λ w. never (sym e ∙ w)) (λ f s. (f, s))), (λ p. shut-breaks z (p .0) (p .1)))
+
+-- a write of such a window is out of range, whatever its other figures
+pub shut-out : (range : ℕ) (f : WindowFigures) → f .end ≤ f .begin → inRange range (AhueWindow f) ≡ false
+unfolding inRange
+shut-out range f h = rw (le-ltb (f .begin) (f .end) h) (and-false (eachInRange range (AhueWindow f)))
 
 pub mended-same : (z : Zone) → windowOpens z ≡ true → mended z ≡ z
 mended-same z e = rw e

@@ -17,6 +17,7 @@ use Rattle.zone.specs.declared.zones.Zone.{Zone}
 use Rattle.zone.specs.Lists.{isZero}
 use Rattle.zone.specs.Figures.{eachInRange, opens, inRange, allZero}
 use Rattle.zone.specs.Zones.{newZone, emptyZone, watchFigures, figuresOf, addressInRange, rangeKnown, actualInRange, isOff, isDeadline, groupsInRange, presentSound, groupsZero, holdsNothing, zoneOtherwiseSound, windowOpens, zoneSound, withStatus, withFigures}
+use Rattle.zone.specs.Rules.{RangeAsBefore, SoundAsBefore}
 use Rattle.zone.proofs.Tests.{never, both, and-l, and-r}
 
 -- the parts of a present zone's soundness, one by one
@@ -60,12 +61,12 @@ otherwise-fitting z p k = rw p (rw (k .address, k .range, k .actual, k .ahue, k 
 
 -- ---- the rule
 
--- what keeps it is judged by its figures' own ranges, as it was before the rule: "proved at the zone"
-pub range-as-before : (range : ℕ) (f : Figures) → opens f ≡ true → inRange range f ≡ eachInRange range f
+-- what keeps it is judged by its figures' own ranges, as it was before the rule
+pub range-as-before : RangeAsBefore
 unfolding inRange
 range-as-before range f e = rw e (and-true (eachInRange range f))
 
-pub sound-as-before : (z : Zone) → windowOpens z ≡ true → zoneSound z ≡ zoneOtherwiseSound z
+pub sound-as-before : SoundAsBefore
 unfolding zoneSound
 sound-as-before z e = rw e (and-true (zoneOtherwiseSound z))
 

@@ -1,14 +1,16 @@
--- Document 01's rules of what is written, as statements about a zone before and after. proofs/Written.antt proves them of the definitions: sets-figures and sets-status.
-use Prim.Native.Nat.{_≤_}
+-- Document 01's rules of what is written, as statements about a zone before and after. proofs/Written.antt proves them of the definitions: sets-figures and sets-status. At the end those of document 02, Req 06.
+use Prim.Native.Nat.{ℕ, _≤_}
 use mathlib.Core.Path.{_≡_}
+use mathlib.Core.Logic.{_↔_}
+use mathlib.Core.Bool.{true, false}
 use Rattle.zone.specs.declared.figures.Group.{Group}
 use Rattle.zone.specs.declared.figures.Figures.{Figures}
 use Rattle.zone.specs.declared.figures.WindowFigures.{WindowFigures}
 use Rattle.zone.specs.declared.status.Status.{Status}
 use Rattle.zone.specs.declared.zones.Watch.the-variants.{Window}
 use Rattle.zone.specs.declared.zones.Zone.{Zone}
-use Rattle.zone.specs.Figures.{groupOf}
-use Rattle.zone.specs.Zones.{figuresOf}
+use Rattle.zone.specs.Figures.{groupOf, eachInRange, opens, inRange}
+use Rattle.zone.specs.Zones.{figuresOf, zoneOtherwiseSound, windowOpens, zoneSound}
 
 -- the zone stays present, or absent, with its address and its temperature range
 pub record SameHead (before after : Zone) : Type 0 where
@@ -33,3 +35,14 @@ pub record SetsStatus (before : Zone) (status : Status) (after : Zone) : Type 0 
 pub record Shut (z : Zone) (window : WindowFigures) : Type 0 where
   pub has : z .watch ≡ Window window
   pub not-below : window .end ≤ window .begin
+
+-- a zone breaks the rule exactly where it has one. `rule-broken`, in proofs/Mended.antt
+abbrev pub RuleBroken : Type 0
+RuleBroken = (z : Zone) → (windowOpens z ≡ false) ↔ ((window : WindowFigures) × Shut z window)
+
+-- and what keeps the rule is judged as before: by document 01's tests alone. `range-as-before` and `sound-as-before`, in proofs/Sound.antt
+abbrev pub RangeAsBefore : Type 0
+RangeAsBefore = (range : ℕ) (figures : Figures) → opens figures ≡ true → inRange range figures ≡ eachInRange range figures
+
+abbrev pub SoundAsBefore : Type 0
+SoundAsBefore = (z : Zone) → windowOpens z ≡ true → zoneSound z ≡ zoneOtherwiseSound z
