@@ -1,8 +1,9 @@
 /*
  * The log program of the card in plain C.
  *
- * It was written from the definition of the card alone and shares nothing with the proved program. The two are held
- * against each other, line by line for what they answer and by the clock for how long they take.
+ * It was written from the definition of the card and its change requests alone and shares nothing with the proved
+ * program. The two are held against each other, line by line for what they answer and by the clock for how long they
+ * take.
  *
  * Built with TEST_SOUND=1 it tests the whole record before each call, as answer 2 demands; no log can bring that answer
  * about. Built with TEST_SOUND=0 it leaves the test out.

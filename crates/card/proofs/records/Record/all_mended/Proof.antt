@@ -25,30 +25,12 @@ loop-holds c =
     let h : length zs ≡ 16 = search (needs, length-mapped) in
     mends-start zs h
 
-mul-z : tie.Need-mul-z Inv-loop μ-loop
-mul-z c = search needs
-
-element-copy-out-z : tie.Need-element-copy-out-z Inv-loop μ-loop
-element-copy-out-z c = search needs
-
 mended-requires : tie.Need-mended-requires Inv-loop μ-loop
 mended-requires c κs =
     let p = c .before .before in
     let zs = p .before .args .t1 .zones in
     let h : length zs ≡ 16 = search (needs, length-mapped) in
     every-in zoneOtherwiseSound zs (p .loop .i) _ (omega arith) (p .before .pre)
-
-mul-t8 : tie.Need-mul-t8 Inv-loop μ-loop
-mul-t8 c = search needs
-
-element-set-from-after : tie.Need-element-set-from-after Inv-loop μ-loop
-element-set-from-after c = search needs
-
-add-i : tie.Need-add-i Inv-loop μ-loop
-add-i c = search needs
-
-loop-less : tie.Need-loop-less Inv-loop μ-loop
-loop-less c = search needs
 
 loop-again : tie.Need-loop-again Inv-loop μ-loop
 loop-again c =
@@ -71,12 +53,12 @@ all-mended-spec =
     Inv-loop
     μ-loop
     loop-holds
-    mul-z
-    element-copy-out-z
+    (λ c. search needs)
+    (λ c. search needs)
     mended-requires
-    mul-t8
-    element-set-from-after
-    add-i
-    loop-less
+    (λ c. search needs)
+    (λ c. search needs)
+    (λ c. search needs)
+    (λ c. search needs)
     loop-again
     returns)

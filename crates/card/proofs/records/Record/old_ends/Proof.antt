@@ -20,12 +20,6 @@ abbrev μ-loop : tie.MeasureT-loop
 loop-holds : tie.Need-loop-holds Inv-loop μ-loop
 loop-holds c = gathers-start (c .args .t1 .zones)
 
-mul-z : tie.Need-mul-z Inv-loop μ-loop
-mul-z c = search needs
-
-element-copy-out-z : tie.Need-element-copy-out-z Inv-loop μ-loop
-element-copy-out-z c = search needs
-
 mul-ends : tie.Need-mul-ends Inv-loop μ-loop
 mul-ends c =
     let g = c .before .before .before .before .before .loop .inv in
@@ -40,12 +34,6 @@ add-count : tie.Need-add-count Inv-loop μ-loop
 add-count c =
     let g = c .before .before .before .before .before .loop .inv in
     omega (arith, g .below, g .counted)
-
-add-i : tie.Need-add-i Inv-loop μ-loop
-add-i c = search needs
-
-loop-less : tie.Need-loop-less Inv-loop μ-loop
-loop-less c = search needs
 
 loop-again : tie.Need-loop-again Inv-loop μ-loop
 loop-again c =
@@ -73,14 +61,14 @@ old-ends-spec =
     Inv-loop
     μ-loop
     loop-holds
-    mul-z
-    element-copy-out-z
+    (λ c. search needs)
+    (λ c. search needs)
     (λ c κs. search needs)
     (λ c κs. search needs)
     mul-ends
     array-set-from-ends
     add-count
-    add-i
-    loop-less
+    (λ c. search needs)
+    (λ c. search needs)
     loop-again
     returns)
