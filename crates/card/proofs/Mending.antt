@@ -11,7 +11,7 @@ use lib.Seq.{drop-cons, sets, sets-eq, take-suc-set, take-all}
 use Rattle.zone.specs.declared.zones.Zone.{Zone}
 use Rattle.zone.specs.Zones.{windowOpens, mended, endOf}
 use Rattle.card.specs.declared.records.OldEnd.{OldEnd}
-use Rattle.card.specs.Calls.{oldEndsFrom, inPlaces}
+use Rattle.card.specs.Calls.{oldEndsFrom, toldAs}
 
 -- ---- the old ends
 
@@ -76,7 +76,7 @@ none-left : (zs : List Zone) (i : ℕ) → length zs ≤ i → oldEndsFrom i (dr
 unfolding oldEndsFrom
 none-left zs i h = rw (drop-of-length-le zs h)
 
-pub gathers-end : (zs : List Zone) (ends : List OldEnd) (count i : ℕ) → length zs ≤ i → Gathers zs ends count i → record { count = count; ends = ends } ≡ inPlaces (oldEndsFrom 0 zs)
+pub gathers-end : (zs : List Zone) (ends : List OldEnd) (count i : ℕ) → length zs ≤ i → Gathers zs ends count i → record { count = count; ends = ends } ≡ toldAs (oldEndsFrom 0 zs)
 gathers-end zs ends count i h g =
     let none = none-left zs i h in
     let told = oldEndsFrom 0 zs in

@@ -8,10 +8,11 @@ use native.Mathlib.Omega.{arith}
 use lib.ListN.{getD, length-map}
 use lib.Seq.{take-append-seam}
 use borrow.Author.Tests.{not-false}
+use Rattle.zone.specs.declared.figures.Figures.{Figures}
 use Rattle.zone.specs.declared.figures.Figures.the-variants.{AhueWindow}
 use Rattle.zone.specs.declared.figures.WindowFigures.{WindowFigures}
 use Rattle.zone.specs.declared.zones.Zone.{Zone}
-use Rattle.zone.specs.Lists.{every}
+use Rattle.zone.specs.Lists.{every, isZero}
 use Rattle.zone.specs.Zones.{emptyZone, zoneOtherwiseSound, windowOpens, opened, mended, endOf}
 use Rattle.zone.specs.Rules.{SetsFigures, Shut}
 use Rattle.zone.proofs.Tests.{never, both}
@@ -21,10 +22,10 @@ use Rattle.card.specs.declared.records.Record.{Record}
 use Rattle.card.specs.declared.records.OldEnd.{OldEnd}
 use Rattle.card.specs.Refusals.{first}
 use Rattle.card.specs.Records.{zoneAt, heldIn, differ, otherwiseSound, sound}
-use Rattle.card.specs.Calls.{repairRows, allMended, oldEndsFrom, inPlaces, repairOf}
-use Rattle.card.specs.Rules.{ExactlyWhen, numbersIn, repairOrder, toldIn, Tells, Rising, Mends, leaves}
+use Rattle.card.specs.Calls.{repairRows, allMended, oldEndsFrom, toldAs, repairOf}
+use Rattle.card.specs.Rules.{ExactlyWhen, numbersIn, repairOrder, toldIn, IsTold, Rising, leaves, RepairMends, RepairRefused, RepairOfSound, RepairAgain, SoundAsBefore}
 use Rattle.card.proofs.Rows.{exactly}
-use Rattle.card.proofs.Storing.{every-at, otherwise-parts, otherwise-whole, sound-both, both-sound}
+use Rattle.card.proofs.Storing.{every-at, every-where, otherwise-parts, otherwise-whole, sound-both, both-sound}
 
 -- ---- when it is refused
 
@@ -47,17 +48,29 @@ done-after : (r : Record) → otherwiseSound r ≡ true → repairOf r .result .
 unfolding repairOf
 done-after r s = rw s
 
-done-told : (r : Record) → otherwiseSound r ≡ true → repairOf r .told ≡ inPlaces (oldEndsFrom 0 (r .zones))
+done-told : (r : Record) → otherwiseSound r ≡ true → repairOf r .told ≡ toldAs (oldEndsFrom 0 (r .zones))
 unfolding repairOf
 done-told r s = rw s
 
-pub repair-refused : (r : Record) → (repairOf r .result .number ≡ 0 → ⊥) → repairOf r ≡ leaves r 2
+pub repair-refused : RepairRefused
 unfolding repairOf
-repair-refused r u = by-fault (otherwiseSound r) refl u
+repair-refused r e = rw e
+
+-- a repair that is not done has met another fault
+pub repair-not-done : (r : Record) → (repairOf r .result .number ≡ 0 → ⊥) → repairOf r ≡ leaves r 2
+repair-not-done r u = by-fault (otherwiseSound r) refl
   where
-    by-fault : (t : Bool) → otherwiseSound r ≡ t → (first (repairRows r) ≡ 0 → ⊥) → repairOf r ≡ leaves r 2
-    by-fault true e u = absurd (u (rw e))
-    by-fault false e u = rw e
+    by-fault : (t : Bool) → otherwiseSound r ≡ t → repairOf r ≡ leaves r 2
+    by-fault true e = absurd (u (repair-goes r e))
+    by-fault false e = repair-refused r e
+
+-- what is not otherwise sound is not sound
+pub not-otherwise : (r : Record) → otherwiseSound r ≡ false → sound r ≡ false
+not-otherwise r e = by-test (sound r) refl
+  where
+    by-test : (t : Bool) → sound r ≡ t → t ≡ false
+    by-test true s = never (sym e ∙ sound-both r s .0)
+    by-test false s = refl
 
 -- ---- zone by zone
 
@@ -66,8 +79,8 @@ mended-at [] n = refl
 mended-at (z ∷ zs) zero = refl
 mended-at (z ∷ zs) (suc n) = mended-at zs n
 
-after-at : (r : Record) (n : ℕ) → repairOf r .result .number ≡ 0 → zoneAt (repairOf r .result .after) n ≡ mended (zoneAt r n)
-after-at r n e = ap (λ (x : Record). zoneAt x n) (done-after r (repair-done r e)) ∙ mended-at (r .zones) n
+after-at : (r : Record) (n : ℕ) → otherwiseSound r ≡ true → zoneAt (repairOf r .result .after) n ≡ mended (zoneAt r n)
+after-at r n e = ap (λ (x : Record). zoneAt x n) (done-after r e) ∙ mended-at (r .zones) n
 
 -- a zone that is mended is present
 pub shut-present : (r : Record) (n : ℕ) (f : WindowFigures) → repairOf r .result .number ≡ 0 → Shut (zoneAt r n) f → zoneAt r n .present ≡ true
@@ -99,7 +112,7 @@ end-of z f s = ap endOf (s .has)
 later : (k : ℕ) (z : Zone) (zs : List Zone) (n end : ℕ) → Found (suc k) zs n end → Found k (z ∷ zs) n end
 later k z zs n end f = record { i = suc (f .i); place = omega (arith, f .place); window = f .window; shut = f .shut; was = f .was }
 
-told-found : (k : ℕ) (zs : List Zone) (n end : ℕ) → Tells (oldEndsFrom k zs) n end → Found k zs n end
+told-found : (k : ℕ) (zs : List Zone) (n end : ℕ) → IsTold (oldEndsFrom k zs) n end → Found k zs n end
 unfolding oldEndsFrom
 told-found k [] n end t = absurd t
 told-found k (z ∷ zs) n end t = by-test (windowOpens z) refl t (told-found (suc k) zs n end)
@@ -112,13 +125,13 @@ told-found k (z ∷ zs) n end t = by-test (windowOpens z) refl t (told-found (su
         record { i = 0; place = omega (arith, ap (λ (x : OldEnd). x .zone) q); window = f; shut = s; was = sym (end-of z f s) ∙ ap (λ (x : OldEnd). x .end) q })
 
     by-test : (t : Bool) → windowOpens z ≡ t
-        → Tells (cond t (oldEndsFrom (suc k) zs) (record { zone = k; end = endOf (z .watch) } ∷ oldEndsFrom (suc k) zs)) n end
-        → (Tells (oldEndsFrom (suc k) zs) n end → Found (suc k) zs n end) → Found k (z ∷ zs) n end
+        → IsTold (cond t (oldEndsFrom (suc k) zs) (record { zone = k; end = endOf (z .watch) } ∷ oldEndsFrom (suc k) zs)) n end
+        → (IsTold (oldEndsFrom (suc k) zs) n end → Found (suc k) zs n end) → Found k (z ∷ zs) n end
     by-test true e t rest = later k z zs n end (rest t)
     by-test false e (inl q) rest = here e q
     by-test false e (inr t) rest = later k z zs n end (rest t)
 
-found-told : (k : ℕ) (zs : List Zone) (n end i : ℕ) (f : WindowFigures) → n ≡ k + i → Shut (getD zs i emptyZone) f → f .end ≡ end → Tells (oldEndsFrom k zs) n end
+found-told : (k : ℕ) (zs : List Zone) (n end i : ℕ) (f : WindowFigures) → n ≡ k + i → Shut (getD zs i emptyZone) f → f .end ≡ end → IsTold (oldEndsFrom k zs) n end
 unfolding oldEndsFrom
 found-told k [] n end i f p s w = never (sym (shut-breaks emptyZone f s))
 found-told k (z ∷ zs) n end zero f p s w =
@@ -127,7 +140,7 @@ found-told k (z ∷ zs) n end zero f p s w =
     rw (shut-breaks z f s) (inl (λ j. record { zone = here j; end = was j }))
 found-told k (z ∷ zs) n end (suc i) f p s w = by-test (windowOpens z) (found-told (suc k) zs n end i f (omega (arith, p)) s w)
   where
-    by-test : (t : Bool) → Tells (oldEndsFrom (suc k) zs) n end → Tells (cond t (oldEndsFrom (suc k) zs) (record { zone = k; end = endOf (z .watch) } ∷ oldEndsFrom (suc k) zs)) n end
+    by-test : (t : Bool) → IsTold (oldEndsFrom (suc k) zs) n end → IsTold (cond t (oldEndsFrom (suc k) zs) (record { zone = k; end = endOf (z .watch) } ∷ oldEndsFrom (suc k) zs)) n end
     by-test true t = t
     by-test false t = inr t
 
@@ -140,7 +153,7 @@ rises k (z ∷ zs) = by-test (windowOpens z) (rises (suc k) zs)
     by-test true h = h
     by-test false h = (λ n end t. omega (arith, told-found (suc k) zs n end t .place), h)
 
-told-list : (l : List OldEnd) → toldIn (inPlaces l) ≡ l
+told-list : (l : List OldEnd) → toldIn (toldAs l) ≡ l
 told-list l = take-append-seam l _
 
 -- ---- what is handed back is sound
@@ -173,11 +186,19 @@ mended-sound r s =
 
 -- ---- all of it
 
-pub repair-mends : (r : Record) → repairOf r .result .number ≡ 0 → Mends r (repairOf r)
-repair-mends r e = record { ends = ends; others = others; told = told; rising = rw told-is (rises 0 (r .zones)); sound-after = rw (done-after r (repair-done r e)) (mended-sound r (repair-done r e)) }
+done-values : (r : Record) → repairOf r .result .values ≡ []
+unfolding repairOf
+done-values r = by-done (isZero (first (repairRows r)))
+  where
+    by-done : (t : Bool) → _≡_ {A = List Figures} (cond t [] []) []
+    by-done true = refl
+    by-done false = refl
+
+pub repair-mends : RepairMends
+repair-mends r e = record { done = (repair-goes r e, done-values r); ends = ends; others = others; told = told; rising = rw told-is (rises 0 (r .zones)); sound-after = rw (done-after r e) (mended-sound r e) }
   where
     told-is : toldIn (repairOf r .told) ≡ oldEndsFrom 0 (r .zones)
-    told-is = ap toldIn (done-told r (repair-done r e)) ∙ told-list (oldEndsFrom 0 (r .zones))
+    told-is = ap toldIn (done-told r e) ∙ told-list (oldEndsFrom 0 (r .zones))
 
     ends : (n : ℕ) (f : WindowFigures) → Shut (zoneAt r n) f → SetsFigures (zoneAt r n) (AhueWindow (opened f)) (zoneAt (repairOf r .result .after) n)
     ends n f s = rw (after-at r n e) (mended-sets (zoneAt r n) f s)
@@ -190,7 +211,7 @@ repair-mends r e = record { ends = ends; others = others; told = told; rising = 
         let p : n ≡ f .i = omega (arith, f .place) in
         (f .window, rw p (f .shut), f .was)
 
-    told : (n end : ℕ) → Tells (toldIn (repairOf r .told)) n end ↔ ((window : WindowFigures) × Shut (zoneAt r n) window × (window .end ≡ end))
+    told : (n end : ℕ) → IsTold (toldIn (repairOf r .told)) n end ↔ ((window : WindowFigures) × Shut (zoneAt r n) window × (window .end ≡ end))
     told n end = rw told-is ((λ t. found-there n end (told-found 0 (r .zones) n end t)), (λ k. found-told 0 (r .zones) n end n (k .0) (omega arith) (k .1) (k .2)))
 
 -- ---- a sound record
@@ -208,12 +229,24 @@ told-none k (z ∷ zs) w =
     let parts = both (windowOpens z) (every windowOpens zs) w in
     rw (parts .0) (told-none (suc k) zs (parts .1))
 
-pub repair-of-sound : (r : Record) → sound r ≡ true → repairOf r ≡ leaves r 0
+pub repair-of-sound : RepairOfSound
 unfolding repairOf
 repair-of-sound r s =
     let parts = sound-both r s in
     rw (parts .0, mended-none (r .zones) (parts .1), told-none 0 (r .zones) (parts .1))
 
 -- so a second repair alters and tells nothing
-pub repair-again : (r : Record) → repairOf r .result .number ≡ 0 → repairOf (repairOf r .result .after) ≡ leaves (repairOf r .result .after) 0
+pub repair-again : RepairAgain
 repair-again r e = repair-of-sound (repairOf r .result .after) (repair-mends r e .sound-after)
+
+-- ---- what is no such window is judged as before
+
+pub sound-as-before : SoundAsBefore
+sound-as-before r u = by-test (otherwiseSound r) refl
+  where
+    opens-at : (n : ℕ) → windowOpens (zoneAt r n) ≡ true
+    opens-at n = by-window (zoneAt r n) (λ w. w) (λ f s. absurd (u n f s))
+
+    by-test : (t : Bool) → otherwiseSound r ≡ t → sound r ≡ t
+    by-test true e = both-sound r e (every-where windowOpens (r .zones) opens-at)
+    by-test false e = not-otherwise r e

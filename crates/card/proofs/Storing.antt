@@ -27,6 +27,10 @@ every-at test [] n d e s = e
 every-at test (x ∷ xs) zero d e s = both (test x) (every test xs) s .0
 every-at test (x ∷ xs) (suc n) d e s = every-at test xs n d e (both (test x) (every test xs) s .1)
 
+pub every-where : (test : Zone → Bool) (zs : List Zone) → ((n : ℕ) → test (getD zs n emptyZone) ≡ true) → every test zs ≡ true
+every-where test [] h = refl
+every-where test (x ∷ xs) h = rw (h 0, every-where test xs (λ n. h (suc n)))
+
 -- of an element that is there no default is asked
 pub every-in : (test : Zone → Bool) (zs : List Zone) (n : ℕ) (d : Zone) → n < length zs → every test zs ≡ true → test (getD zs n d) ≡ true
 every-in test [] n d h s = absurd (omega arith)
@@ -119,16 +123,17 @@ pub otherwise-whole : (r : Record) → OtherwiseSound r → otherwiseSound r ≡
 unfolding otherwiseSound
 otherwise-whole r k = rw (eq-eqb (length (r .zones)) 16 (k .sixteen), k .zones, k .addresses)
 
--- sound is that and the rule
-pub sound-both : (r : Record) → sound r ≡ true → (otherwiseSound r ≡ true) × (every windowOpens (r .zones) ≡ true)
+pub sound-parts : (r : Record) → sound r ≡ true → Sound r
 unfolding sound
-sound-both r s = both (otherwiseSound r) (every windowOpens (r .zones)) s
+sound-parts r s =
+    let l : eqb (length (r .zones)) 16 ≡ true = search and-l in
+    record { sixteen = eqb-true (length (r .zones)) 16 l; zones = search (and-l, and-r); addresses = search (and-l, and-r) }
 
-pub both-sound : (r : Record) → otherwiseSound r ≡ true → every windowOpens (r .zones) ≡ true → sound r ≡ true
+sound-whole : (r : Record) → Sound r → sound r ≡ true
 unfolding sound
-both-sound r s w = rw (s, w)
+sound-whole r k = rw (eq-eqb (length (r .zones)) 16 (k .sixteen), k .zones, k .addresses)
 
--- which every zone keeps if it is sound
+-- sound is otherwise sound, and every zone's rule
 every-sound : (zs : List Zone) → every zoneOtherwiseSound zs ≡ true → every windowOpens zs ≡ true → every zoneSound zs ≡ true
 every-sound [] s w = refl
 every-sound (z ∷ zs) s w =
@@ -144,16 +149,16 @@ every-otherwise (z ∷ zs) s =
     let rest = every-otherwise zs (p .1) in
     (rw (here .0, rest .0), rw (here .1, rest .1))
 
-pub sound-parts : (r : Record) → sound r ≡ true → Sound r
-sound-parts r s =
-    let p = sound-both r s in
-    let k = otherwise-parts r (p .0) in
-    record { sixteen = k .sixteen; zones = every-sound (r .zones) (k .zones) (p .1); addresses = k .addresses }
-
-sound-whole : (r : Record) → Sound r → sound r ≡ true
-sound-whole r k =
+pub sound-both : (r : Record) → sound r ≡ true → (otherwiseSound r ≡ true) × (every windowOpens (r .zones) ≡ true)
+sound-both r s =
+    let k = sound-parts r s in
     let p = every-otherwise (r .zones) (k .zones) in
-    both-sound r (otherwise-whole r (record { sixteen = k .sixteen; zones = p .0; addresses = k .addresses })) (p .1)
+    (otherwise-whole r (record { sixteen = k .sixteen; zones = p .0; addresses = k .addresses }), p .1)
+
+pub both-sound : (r : Record) → otherwiseSound r ≡ true → every windowOpens (r .zones) ≡ true → sound r ≡ true
+both-sound r s w =
+    let k = otherwise-parts r s in
+    sound-whole r (record { sixteen = k .sixteen; zones = every-sound (r .zones) (k .zones) w; addresses = k .addresses })
 
 pub zone-sound : (r : Record) (n : ℕ) → sound r ≡ true → zoneSound (zoneAt r n) ≡ true
 zone-sound r n s = every-at zoneSound (r .zones) n emptyZone empty-sound (sound-parts r s .zones)

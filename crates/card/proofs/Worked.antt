@@ -9,12 +9,13 @@ use Rattle.zone.specs.declared.figures.Figures.the-variants.{AhueDeadline, Ahue
 use Rattle.zone.specs.declared.figures.Command.the-variants.{Read, Write}
 use Rattle.zone.specs.declared.zones.Watch.the-variants.{Window}
 use Rattle.zone.specs.Figures.{eachInRange, inRange, allZero}
-use Rattle.zone.specs.Zones.{newZone, emptyZone, zoneOtherwiseSound, zoneSound, withWatch}
+use Rattle.zone.specs.declared.zones.Zone.{Zone}
+use Rattle.zone.specs.Zones.{newZone, emptyZone, zoneOtherwiseSound, zoneSound, stateNumbered, withStatus, withWatch}
 use Rattle.card.specs.declared.records.Record.{Record}
 use Rattle.card.specs.declared.records.Found.the-variants.{At, Nowhere}
 use Rattle.card.specs.Records.{emptyRecord, withZone, differ, otherwiseSound, sound, findFrom, findOf}
 use Rattle.card.specs.Calls.{addOf, removeOf, reportOf, applyOf, oldEndsFrom, repairOf}
-use Rattle.card.specs.Rules.{toldIn}
+use Rattle.card.specs.Rules.{toldIn, leaves}
 
 -- ---- soundness
 
@@ -23,12 +24,12 @@ unfolding zoneSound zoneOtherwiseSound eachInRange
 new-zone-sound = refl
 
 empty-record-sound : sound emptyRecord ≡ true
-unfolding sound otherwiseSound differ zoneOtherwiseSound allZero
+unfolding sound otherwiseSound differ zoneSound zoneOtherwiseSound allZero
 empty-record-sound = refl
 
 -- zone 5 holds address 33 and has 300 degrees
 start : Record
-unfolding addOf sound otherwiseSound differ zoneOtherwiseSound inRange eachInRange allZero
+unfolding addOf sound otherwiseSound differ zoneSound zoneOtherwiseSound inRange eachInRange allZero
 start = addOf emptyRecord 5 33 300 .after
 
 -- records that are not sound: an absent zone with a window of zeros, one with a new zone's figures, two zones with one address, a setpoint of 301 in 300 degrees
@@ -43,7 +44,7 @@ unsound =
 
 -- one bad zone spoils every call: 2, also where another zone is meant
 spoilt : map (λ r. applyOf r 5 (Read group.Hzbg) .number) unsound ≡ 2 ∷ 2 ∷ 2 ∷ 2 ∷ []
-unfolding unsound start addOf applyOf sound otherwiseSound differ zoneOtherwiseSound inRange eachInRange allZero
+unfolding unsound start addOf applyOf sound otherwiseSound differ zoneSound zoneOtherwiseSound inRange eachInRange allZero
 spoilt = refl
 
 -- ---- the calls: what is asked beside the number that is given
@@ -74,7 +75,7 @@ adding =
     ∷ []
 
 added : map (λ a. addOf start (a .asks .0) (a .asks .1) (a .asks .2) .number) adding ≡ map (λ a. a .gives) adding
-unfolding adding start addOf sound otherwiseSound differ zoneOtherwiseSound inRange eachInRange allZero
+unfolding adding start addOf sound otherwiseSound differ zoneSound zoneOtherwiseSound inRange eachInRange allZero
 added = refl
 
 -- zone
@@ -82,7 +83,7 @@ removing : List (Asked ℕ)
 removing = (5 is 0) ∷ (4 is 3) ∷ (16 is 3) ∷ (65541 is 3) ∷ []
 
 removed : map (λ a. removeOf start (a .asks) .number) removing ≡ map (λ a. a .gives) removing
-unfolding removing start addOf removeOf sound otherwiseSound differ zoneOtherwiseSound inRange eachInRange allZero
+unfolding removing start addOf removeOf sound otherwiseSound differ zoneSound zoneOtherwiseSound inRange eachInRange allZero
 removed = refl
 
 -- zone, state and actual value
@@ -90,7 +91,7 @@ reporting : List (Asked (ℕ × ℕ × ℕ))
 reporting = ((5, 3, 999) is 0) ∷ ((4, 4, 0) is 3) ∷ ((5, 4, 0) is 9) ∷ ((5, 65536, 0) is 9) ∷ ((5, 0, 1000) is 9) ∷ []
 
 reported : map (λ a. reportOf start (a .asks .0) (a .asks .1) (a .asks .2) .number) reporting ≡ map (λ a. a .gives) reporting
-unfolding reporting start addOf reportOf sound otherwiseSound differ zoneOtherwiseSound inRange eachInRange allZero
+unfolding reporting start addOf reportOf sound otherwiseSound differ zoneSound zoneOtherwiseSound inRange eachInRange allZero
 reported = refl
 
 deadlineOf : ℕ → ℕ → Figures
@@ -133,17 +134,17 @@ writing =
     ∷ []
 
 written : map (λ a. applyOf (reportOf start 5 (a .asks .0) 20 .after) 5 (Write (a .asks .1)) .number) writing ≡ map (λ a. a .gives) writing
-unfolding writing deadlineOf windowOf start addOf reportOf applyOf sound otherwiseSound differ zoneOtherwiseSound inRange eachInRange allZero
+unfolding writing deadlineOf windowOf start addOf reportOf applyOf sound otherwiseSound differ zoneSound zoneOtherwiseSound inRange eachInRange allZero
 written = refl
 
 -- AHUE is read in the form last written
 last-form : applyOf (applyOf (applyOf start 5 (Write (windowOf 20 50)) .after) 5 (Write (deadlineOf 5 99)) .after) 5 (Read group.Ahue) .values ≡ deadlineOf 5 99 ∷ []
-unfolding deadlineOf windowOf start addOf applyOf sound otherwiseSound differ zoneOtherwiseSound inRange eachInRange allZero
+unfolding deadlineOf windowOf start addOf applyOf sound otherwiseSound differ zoneSound zoneOtherwiseSound inRange eachInRange allZero
 last-form = refl
 
 -- the address is found at its zone; an absent zone holds none, not even 0
 found : map (findOf start) (33 ∷ 34 ∷ 0 ∷ 65569 ∷ []) ≡ At 5 ∷ Nowhere ∷ Nowhere ∷ Nowhere ∷ []
-unfolding start addOf sound otherwiseSound differ zoneOtherwiseSound inRange eachInRange allZero findFrom
+unfolding start addOf sound otherwiseSound differ zoneSound zoneOtherwiseSound inRange eachInRange allZero findFrom
 found = refl
 
 -- ---- a repair (document 02, Req 06)
@@ -157,26 +158,48 @@ repairing : List (Asked (ℕ × ℕ))
 repairing = ((500, 200) is 0) ∷ ((200, 200) is 0) ∷ ((998, 1) is 0) ∷ ((200, 201) is 0) ∷ ((999, 999) is 2) ∷ ((5, 0) is 2) ∷ []
 
 repaired-by-number : map (λ a. repairOf (withWindow start (a .asks .0) (a .asks .1)) .result .number) repairing ≡ map (λ a. a .gives) repairing
-unfolding repairing withWindow start addOf repairOf sound otherwiseSound differ zoneOtherwiseSound inRange eachInRange allZero
+unfolding repairing withWindow start addOf repairOf sound otherwiseSound differ zoneSound zoneOtherwiseSound inRange eachInRange allZero
 repaired-by-number = refl
 
 -- what they tell, and the end afterwards, which is begin + 1 where something was told
 ends-told : map (λ a. toldIn (repairOf (withWindow start (a .asks .0) (a .asks .1)) .told)) repairing
     ≡ (record { zone = 2; end = 200 } ∷ []) ∷ (record { zone = 2; end = 200 } ∷ []) ∷ (record { zone = 2; end = 1 } ∷ []) ∷ [] ∷ [] ∷ [] ∷ []
-unfolding repairing withWindow start addOf repairOf oldEndsFrom sound otherwiseSound differ zoneOtherwiseSound inRange eachInRange allZero
+unfolding repairing withWindow start addOf repairOf oldEndsFrom sound otherwiseSound differ zoneSound zoneOtherwiseSound inRange eachInRange allZero
 ends-told = refl
 
 repaired-records : map (λ a. repairOf (withWindow start (a .asks .0) (a .asks .1)) .result .after) repairing
     ≡ withWindow start 500 501 ∷ withWindow start 200 201 ∷ withWindow start 998 999 ∷ withWindow start 200 201 ∷ withWindow start 999 999 ∷ withWindow start 5 0 ∷ []
-unfolding repairing withWindow start addOf repairOf sound otherwiseSound differ zoneOtherwiseSound inRange eachInRange allZero
+unfolding repairing withWindow start addOf repairOf sound otherwiseSound differ zoneSound zoneOtherwiseSound inRange eachInRange allZero
 repaired-records = refl
+
+-- two such zones, one of them in On and the other in Calibration: both are mended, and told in rising order
+twice : ℕ → ℕ → Record
+unfolding start
+twice first second = withZone (withZone start 2 (shutIn (newZone 34 500) 1 700 first)) 5 (shutIn (newZone 33 300) 2 300 second)
+  where
+    shutIn : Zone → ℕ → ℕ → ℕ → Zone
+    shutIn z state begin end = withWatch (withStatus z (record { state = stateNumbered state; actual = 20 })) (Window (record { flag = 1; lower = 10; upper = 10; begin = begin; end = end }))
+
+both-mended : repairOf (twice 100 300) .result ≡ record { number = 0; values = []; after = twice 701 301 }
+unfolding twice start addOf repairOf sound otherwiseSound differ zoneSound zoneOtherwiseSound inRange eachInRange allZero
+both-mended = refl
+
+both-told : toldIn (repairOf (twice 100 300) .told) ≡ record { zone = 2; end = 100 } ∷ record { zone = 5; end = 300 } ∷ []
+unfolding twice start addOf repairOf oldEndsFrom sound otherwiseSound differ zoneSound zoneOtherwiseSound inRange eachInRange allZero
+both-told = refl
+
+-- such a window in zone 2 and another fault in zone 5, a setpoint of 301 in 300 degrees: 2, and nothing is mended or told
+shut-and-faulty : repairOf (withZone (withWindow start 500 200) 5 (Rattle.zone.specs.Zones.withFigures (newZone 33 300) (SolwSetpoint (record { setpoint = 301 }))))
+    ≡ leaves (withZone (withWindow start 500 200) 5 (Rattle.zone.specs.Zones.withFigures (newZone 33 300) (SolwSetpoint (record { setpoint = 301 })))) 2
+unfolding withWindow start addOf repairOf oldEndsFrom sound otherwiseSound differ zoneSound zoneOtherwiseSound inRange eachInRange allZero
+shut-and-faulty = refl
 
 -- another fault anywhere: 2
 spoilt-too : map (λ r. repairOf r .result .number) unsound ≡ 2 ∷ 2 ∷ 2 ∷ 2 ∷ []
-unfolding unsound start addOf repairOf sound otherwiseSound differ zoneOtherwiseSound inRange eachInRange allZero
+unfolding unsound start addOf repairOf sound otherwiseSound differ zoneSound zoneOtherwiseSound inRange eachInRange allZero
 spoilt-too = refl
 
 -- such a window spoils every other call, a read of another zone too
 shut-spoils : map (λ a. applyOf (withWindow start (a .asks .0) (a .asks .1)) 5 (Read group.Hzbg) .number) repairing ≡ 2 ∷ 2 ∷ 2 ∷ 0 ∷ 2 ∷ 2 ∷ []
-unfolding repairing withWindow start addOf applyOf sound otherwiseSound differ zoneOtherwiseSound inRange eachInRange allZero
+unfolding repairing withWindow start addOf applyOf sound otherwiseSound differ zoneSound zoneOtherwiseSound inRange eachInRange allZero
 shut-spoils = refl

@@ -13,7 +13,7 @@ use Rattle.card.specs.declared.records.Outcome.{Outcome}
 abbrev pub refusalNumber : Refusal → ℕ
 -- "reply room below 32 bytes"
 refusalNumber NoRoom = 1
--- "record not sound"
+-- "record not sound"; for a repair "any other unsoundness" (document 02, Req 06)
 refusalNumber NotSound = 2
 -- "zone above 15, or absent (for adding: above 15 only)"
 refusalNumber NoZone = 3
@@ -27,7 +27,7 @@ refusalNumber Checksum = 6
 refusalNumber Unknown = 7
 -- "known command, wrong length, spaces or digits"
 refusalNumber Syntax = 8
--- "a figure outside its range (composing: one the road can't carry)"
+-- "a figure outside its range (composing: one the road can't carry)", and since Req 06 "a window with begin not below end"
 refusalNumber OutOfRange = 9
 -- "write not permitted in this state"
 refusalNumber Locked = 10

@@ -1,4 +1,4 @@
--- What each call comes to, for every record, sound or not. Its refusals stand in document 01's order.
+-- What each call comes to, for every record, sound or not. Its refusals stand in document 01's order, those of the repair, at the end, in document 02's.
 use Prim.Native.Nat.{ℕ, suc, _-_}
 use mathlib.Core.Bool.{Bool, cond, not, _&&_}
 use mathlib.Core.List.{List, [], _∷_, _++_, map}
@@ -8,6 +8,7 @@ use Rattle.zone.specs.declared.figures.Figures.{Figures}
 use Rattle.zone.specs.declared.figures.Command.{Command}
 use Rattle.zone.specs.declared.figures.Command.the-variants.{Read, Write}
 use Rattle.zone.specs.declared.zones.Zone.{Zone}
+use Rattle.zone.specs.Lists.{isZero}
 use Rattle.zone.specs.Figures.{groupOf, inRange}
 use Rattle.zone.specs.Zones.{newZone, emptyZone, figuresOf, addressInRange, rangeKnown, actualInRange, stateNumbered, withStatus, withFigures, locks, windowOpens, mended, endOf}
 use Rattle.card.specs.declared.records.Record.{Record}
@@ -15,7 +16,7 @@ use Rattle.card.specs.declared.records.OldEnd.{OldEnd}
 use Rattle.card.specs.declared.records.OldEnds.{OldEnds}
 use Rattle.card.specs.declared.records.Repaired.{Repaired}
 use Rattle.card.specs.Answers.{Result, outcomeSeen}
-use Rattle.card.specs.Refusals.{Row, _gives_, settled}
+use Rattle.card.specs.Refusals.{Row, _gives_, first, settled}
 use Rattle.card.specs.Records.{zoneAt, withZone, heldIn, otherwiseSound, sound, noZone}
 
 -- what a zone decides of a call: its own refusals and, where none applies, the values that are told and the zone afterwards
@@ -99,9 +100,9 @@ unfoldable pub oldEndsFrom : ℕ → List Zone → List OldEnd
 oldEndsFrom n [] = []
 oldEndsFrom n (z ∷ zones) = cond (windowOpens z) (oldEndsFrom (suc n) zones) (record { zone = n; end = endOf (z .watch) } ∷ oldEndsFrom (suc n) zones)
 
--- the sixteen places that they are told in: how many are told, and zeros behind these
-abbrev pub inPlaces : List OldEnd → OldEnds
-inPlaces told = record { count = length told; ends = told ++ replicate (16 - length told) (record { zone = 0; end = 0 }) }
+-- as they are handed back, in sixteen entries: how many are told, and zeros behind these
+abbrev pub toldAs : List OldEnd → OldEnds
+toldAs told = record { count = length told; ends = told ++ replicate (16 - length told) (record { zone = 0; end = 0 }) }
 
 -- what a repair comes to: what every call comes to, and what it tells
 pub record Repair : Type 0 where
@@ -115,5 +116,5 @@ repairSeen o = record { result = outcomeSeen (o .outcome); told = o .told }
 unfoldable pub repairOf : Record → Repair
 repairOf r = record {
   result = settled r (repairRows r) [] (allMended r);
-  told = inPlaces (cond (otherwiseSound r) (oldEndsFrom 0 (r .zones)) []);
+  told = toldAs (cond (isZero (first (repairRows r))) (oldEndsFrom 0 (r .zones)) []);
 }

@@ -6,7 +6,7 @@ use lib.ListN.{length, getD, set, replicate}
 use lib.Dec.{leb, eqb}
 use Rattle.zone.specs.declared.zones.Zone.{Zone}
 use Rattle.zone.specs.Lists.{every, some}
-use Rattle.zone.specs.Zones.{emptyZone, zoneOtherwiseSound, windowOpens, holds}
+use Rattle.zone.specs.Zones.{emptyZone, zoneOtherwiseSound, zoneSound, holds}
 use Rattle.card.specs.declared.records.Record.{Record}
 use Rattle.card.specs.declared.records.Found.{Found}
 use Rattle.card.specs.declared.records.Found.the-variants.{At, Nowhere}
@@ -36,14 +36,16 @@ differ (z ∷ zones) = not (z .present && heldIn zones (z .address)) && differ z
 abbrev pub sixteen : Record → Bool
 sixteen r = eqb (length (r .zones)) 16
 
--- "A record is sound if every figure of every present zone lies in its range, addresses differ and absent zones are empty": document 01's sentence, each figure judged by its own range.
--- What fails it is the "other unsoundness" of document 02, Req 06
-unfoldable pub otherwiseSound : Record → Bool
-otherwiseSound r = sixteen r && (every zoneOtherwiseSound (r .zones) && differ (r .zones))
+-- "A record is sound if every figure of every present zone lies in its range, addresses differ and absent zones are empty", by what is asked of each zone
+abbrev pub soundBy : (Zone → Bool) → Record → Bool
+soundBy zone r = sixteen r && (every zone (r .zones) && differ (r .zones))
 
--- Sound is that and the rule of Req 06: "A window with begin not below end .. is not sound"
 unfoldable pub sound : Record → Bool
-sound r = otherwiseSound r && every windowOpens (r .zones)
+sound r = soundBy zoneSound r
+
+-- soundness without the rule that a window opens before it closes; what fails it is the "other unsoundness" of document 02, Req 06
+unfoldable pub otherwiseSound : Record → Bool
+otherwiseSound r = soundBy zoneOtherwiseSound r
 
 -- "An address is looked up from zone 0 upward; the search ends at the first zone that holds it"
 unfoldable pub findFrom : ℕ → List Zone → ℕ → Found

@@ -1,4 +1,4 @@
--- Document 01's rules as statements about a call's result. Above each stands where it is proved, for every record and all arguments.
+-- The rules of documents 01 and 02 as statements about a call's result. Above each stands where it is proved, for every record and all arguments that it names.
 use Prim.Native.Nat.{ℕ, _<_}
 use mathlib.Core.Path.{_≡_}
 use mathlib.Core.Logic.{_↔_, _⊎_}
@@ -14,8 +14,8 @@ use Rattle.card.specs.declared.records.OldEnd.{OldEnd}
 use Rattle.card.specs.declared.records.OldEnds.{OldEnds}
 use Rattle.card.specs.Answers.{Result}
 use Rattle.card.specs.Refusals.{Row, _gives_}
-use Rattle.card.specs.Records.{zoneAt, heldIn, sound}
-use Rattle.card.specs.Calls.{addOf, inPlaces, Repair}
+use Rattle.card.specs.Records.{zoneAt, heldIn, otherwiseSound, sound}
+use Rattle.card.specs.Calls.{addOf, toldAs, Repair, repairOf}
 
 -- What every call on zone n of r keeps, whatever it answers.
 -- add-keeps, remove-keeps, report-keeps and apply-keeps, in proofs/Kept.antt
@@ -94,29 +94,48 @@ abbrev pub toldIn : OldEnds → List OldEnd
 toldIn told = take (told .count) (told .ends)
 
 -- zone n is told, with that end
-abbrev pub Tells : List OldEnd → ℕ → ℕ → Type 0
-Tells [] n end = ⊥
-Tells (t ∷ ts) n end = (t ≡ record { zone = n; end = end }) ⊎ Tells ts n end
+abbrev pub IsTold : List OldEnd → ℕ → ℕ → Type 0
+IsTold [] n end = ⊥
+IsTold (t ∷ ts) n end = (t ≡ record { zone = n; end = end }) ⊎ IsTold ts n end
 
--- the zones that are told rise
+-- the numbers of the told zones rise
 abbrev pub Rising : List OldEnd → Type 0
 Rising [] = Unit {0}
-Rising (t ∷ ts) = ((n end : ℕ) → Tells ts n end → t .zone < n) × Rising ts
+Rising (t ∷ ts) = ((n end : ℕ) → IsTold ts n end → t .zone < n) × Rising ts
 
--- What a done repair of r does, zone by zone.
--- repair-mends, in proofs/Repairs.antt
+-- what a done repair of r does, zone by zone
 pub record Mends (r : Record) (o : Repair) : Type 0 where
+  pub done : (o .result .number ≡ 0) × (o .result .values ≡ [])
   -- it "sets the end to begin + 1 in each such zone", whose other figures and groups, status, address and range stay
   pub ends : (n : ℕ) (window : WindowFigures) → Shut (zoneAt r n) window → SetsFigures (zoneAt r n) (AhueWindow (opened window)) (zoneAt (o .result .after) n)
   -- "and touches nothing else"
   pub others : (n : ℕ) → ((window : WindowFigures) → Shut (zoneAt r n) window → ⊥) → zoneAt (o .result .after) n ≡ zoneAt r n
   -- it "tells those zones and their old ends", and no others
-  pub told : (n end : ℕ) → Tells (toldIn (o .told)) n end ↔ ((window : WindowFigures) × Shut (zoneAt r n) window × (window .end ≡ end))
+  pub told : (n end : ℕ) → IsTold (toldIn (o .told)) n end ↔ ((window : WindowFigures) × Shut (zoneAt r n) window × (window .end ≡ end))
   pub rising : Rising (toldIn (o .told))
   -- what is handed back is sound
   pub sound-after : sound (o .result .after) ≡ true
 
--- A repair that leaves a record as it is, with that number, and tells nothing.
--- repair-refused: so does one that is refused, with 2; repair-of-sound: so does that of a sound record, done; repair-again: and so does a second one
+-- a record without another fault is mended. `repair-mends`, in proofs/Repairs.antt
+abbrev pub RepairMends : Type 0
+RepairMends = (r : Record) → otherwiseSound r ≡ true → Mends r (repairOf r)
+
+-- a repair that leaves the record as it is, with that number, and tells nothing
 abbrev pub leaves : Record → ℕ → Repair
-leaves r number = record { result = record { number = number; values = []; after = r }; told = inPlaces [] }
+leaves r number = record { result = record { number = number; values = []; after = r }; told = toldAs [] }
+
+-- "Any other unsoundness gives 2". `repair-refused`, in proofs/Repairs.antt
+abbrev pub RepairRefused : Type 0
+RepairRefused = (r : Record) → otherwiseSound r ≡ false → repairOf r ≡ leaves r 2
+
+-- a sound record comes back as it was. `repair-of-sound`, in proofs/Repairs.antt
+abbrev pub RepairOfSound : Type 0
+RepairOfSound = (r : Record) → sound r ≡ true → repairOf r ≡ leaves r 0
+
+-- and so does a mended one. `repair-again`, in proofs/Repairs.antt
+abbrev pub RepairAgain : Type 0
+RepairAgain = (r : Record) → otherwiseSound r ≡ true → repairOf (repairOf r .result .after) ≡ leaves (repairOf r .result .after) 0
+
+-- a record without such a window is sound exactly where document 01 says so. `sound-as-before`, in proofs/Repairs.antt
+abbrev pub SoundAsBefore : Type 0
+SoundAsBefore = (r : Record) → ((n : ℕ) (window : WindowFigures) → Shut (zoneAt r n) window → ⊥) → sound r ≡ otherwiseSound r

@@ -12,10 +12,10 @@ ghost use mathlib.Core.Path.{_≡_};
 ghost use mathlib.Core.Bool.{true};
 ghost use Prim.Native.Nat.{_<_};
 ghost use Rattle.zone.specs.Lists.{every, some};
-ghost use Rattle.zone.specs.Zones.{zoneOtherwiseSound, windowOpens, mended, holds};
+ghost use Rattle.zone.specs.Zones.{zoneOtherwiseSound, zoneSound, mended, holds};
 ghost use Rattle.card.specs.Answers.{outcomeSeen};
 ghost use Rattle.card.specs.Records.{emptyRecord, zoneAt, differ, otherwiseSound, sound, findOf};
-ghost use Rattle.card.specs.Calls.{addOf, removeOf, reportOf, applyOf, allMended, oldEndsFrom, inPlaces, repairSeen, repairOf};
+ghost use Rattle.card.specs.Calls.{addOf, removeOf, reportOf, applyOf, allMended, oldEndsFrom, toldAs, repairSeen, repairOf};
 ghost use Rattle.card.specs.Inner.{rangeAt, reachOf, verdictSeen, stored, askOf};
 
 pub struct Record {
@@ -71,7 +71,20 @@ impl Record {
     pub fn is_sound(self) -> bool
         ensures { λ r. ⌜ r ≡ sound self ⌝ }
     {
-        self.is_otherwise_sound() & self.windows_open()
+        self.zones_sound() & self.addresses_differ()
+    }
+
+    fn zones_sound(self) -> bool
+        ensures { λ r. ⌜ r ≡ every zoneSound (self .zones) ⌝ }
+    {
+        let mut ok = true;
+        let mut i: usize = 0;
+        while i < 16 {
+            let z = self.zones[i];
+            ok = ok & z.is_sound();
+            i += 1;
+        }
+        ok
     }
 
     // Soundness without the rule for windows.
@@ -89,19 +102,6 @@ impl Record {
         while i < 16 {
             let z = self.zones[i];
             ok = ok & z.is_otherwise_sound();
-            i += 1;
-        }
-        ok
-    }
-
-    fn windows_open(self) -> bool
-        ensures { λ r. ⌜ r ≡ every windowOpens (self .zones) ⌝ }
-    {
-        let mut ok = true;
-        let mut i: usize = 0;
-        while i < 16 {
-            let z = self.zones[i];
-            ok = ok & z.window_opens();
             i += 1;
         }
         ok
@@ -260,7 +260,7 @@ impl Record {
 
     // The zones whose window does not open before it closes, with its end.
     fn old_ends(self) -> OldEnds
-        ensures { λ r. ⌜ r ≡ inPlaces (oldEndsFrom 0 (self .zones)) ⌝ }
+        ensures { λ r. ⌜ r ≡ toldAs (oldEndsFrom 0 (self .zones)) ⌝ }
     {
         let mut ends = [OldEnd { zone: 0, end: 0 }; 16];
         let mut count: usize = 0;
@@ -282,7 +282,7 @@ impl Record {
         }
     }
 
-    // Each zone mended.
+    // Each zone, mended if its window does not open before it closes.
     fn all_mended(self) -> Record
         requires { ⌜ every zoneOtherwiseSound (self .zones) ≡ true ⌝ }
         ensures { λ r. ⌜ r ≡ allMended self ⌝ }
@@ -297,8 +297,8 @@ impl Record {
         after
     }
 
-    // The end of each window that does not open before it closes is set to its begin + 1, if the
-    // record has no other fault.
+    // The end of each window that does not open before it closes is set to its begin + 1, and those
+    // zones are told with their old ends. A record with another fault is refused, and nothing is told.
     pub fn repair(self) -> Repaired
         ensures { λ r. ⌜ repairSeen r ≡ repairOf self ⌝ }
     {

@@ -11,9 +11,9 @@ use borrow.Author.Tests.{ltb-true, ltb-false}
 use Rattle.bytes.specs.Bytes.{indexOf}
 use Rattle.zone.specs.Lists.{ascii}
 use Rattle.zone.specs.Figures.{eachInRange, inRange, allZero}
-use Rattle.zone.specs.Zones.{zoneOtherwiseSound}
+use Rattle.zone.specs.Zones.{zoneOtherwiseSound, zoneSound}
 use Rattle.card.specs.declared.records.Record.{Record}
-use Rattle.card.specs.Records.{emptyRecord, differ, otherwiseSound, sound, findFrom}
+use Rattle.card.specs.Records.{emptyRecord, differ, sound, findFrom}
 use Rattle.card.specs.Calls.{addOf, removeOf}
 use Rattle.wire.specs.Road.{formRead, writeRead}
 use Rattle.line.specs.Field.{upToSpace, digitsBehind, figureOf}
@@ -159,7 +159,7 @@ caseOut =
     ++ ascii "F\t5\t-\n"
 
 pub whole-case : logOf caseIn ≡ caseOut
-unfolding indexOf inRange eachInRange allZero zoneOtherwiseSound differ otherwiseSound sound findFrom addOf removeOf formRead writeRead upToSpace digitsBehind figureOf same groupNamed lineRead sumOf groupIndexed bodyRead textReply frameReply answerText answerFrame decimalOf bytesRead inHex decimals textAsks frameAsks asksOf lineYields linesYield endedBehind begunBehind logOf
+unfolding indexOf inRange eachInRange allZero zoneSound zoneOtherwiseSound differ sound findFrom addOf removeOf formRead writeRead upToSpace digitsBehind figureOf same groupNamed lineRead sumOf groupIndexed bodyRead textReply frameReply answerText answerFrame decimalOf bytesRead inHex decimals textAsks frameAsks asksOf lineYields linesYield endedBehind begunBehind logOf
 whole-case = refl
 
 -- "A last line may lack its line end"

@@ -10,7 +10,7 @@ use Rattle.zone.specs.Lists.{every}
 use Rattle.zone.specs.Figures.{Entry, entriesOf, fits, eachInRange, opens}
 use Rattle.zone.specs.Inner.{fiveFit}
 use Rattle.line.specs.Line.{textRoad}
-use Rattle.line.specs.Places.{Place, nowhere, offset, told, endFigure, outFrom, outOf}
+use Rattle.line.specs.Places.{Place, nowhere, offset, told, endOffset, outFrom, outOf}
 
 told-cond : (t : Bool) (p : Place) (n : ℕ) → told (cond t p (offset n)) ≡ cond t (told p) n
 told-cond true p n = refl
@@ -31,9 +31,9 @@ else-is p range i (e ∷ es) = by-fit (fits range e) (else-is p range (i + textR
     by-fit true h = h
     by-fit false h = refl
 
-out-else : (range : ℕ) (f : Figures) → outOf range f ≡ outElse (cond (opens f) nowhere (offset endFigure)) range 5 (entriesOf f)
+out-else : (range : ℕ) (f : Figures) → outOf range f ≡ outElse (cond (opens f) nowhere (offset endOffset)) range 5 (entriesOf f)
 unfolding outOf eachInRange
-out-else range f = else-is (cond (opens f) nowhere (offset endFigure)) range 5 (entriesOf f)
+out-else range f = else-is (cond (opens f) nowhere (offset endOffset)) range 5 (entriesOf f)
 
 abbrev pub firstOut : List Bool → Bool → ℕ
 firstOut fits rule = cond (getD fits 0 false) (cond (getD fits 1 false) (cond (getD fits 2 false) (cond (getD fits 3 false) (cond (getD fits 4 false) (cond rule 0 20) 20) 16) 12) 8) 6

@@ -1,14 +1,14 @@
--- Number and place go together: a line is a syntax error exactly where it has the place of one, and a figure is out of range exactly where there is a first one. Both places lie behind the five letters and within the line. Assumes nothing.
+-- Number and place go together: a line is a syntax error exactly where it has the place of one, and figures are out of range exactly where they have the place of a 9. Both places lie behind the five letters and within the line. Assumes nothing.
 use Prim.Native.Nat.{ℕ, _+_, _-_, _≤_, _<_}
 use mathlib.Core.Path.{_≡_, refl, sym, ap, _∙_}
 use mathlib.Core.Logic.{_↔_}
 use mathlib.Core.Bool.{Bool, true, false, cond, _&&_, _||_}
-use mathlib.Core.List.{List, [], _∷_, _++_, append-assoc}
+use mathlib.Core.List.{List, [], _∷_, _++_, append-assoc, append-nil}
 use native.Mathlib.Omega.{arith}
 use lib.ListN.{length, drop, take, getD, length-drop, length-append, drop-of-length-le}
-use lib.Seq.{drop-cons, getD-append-seam}
+use lib.Seq.{drop-cons, drop-at, getD-append-seam}
 use lib.Dec.{ltb, eqb}
-use borrow.Author.Tests.{ltb-true, ltb-false, eq-eqb, ne-eqb, eqb-true, eqb-false}
+use borrow.Author.Tests.{ltb-true, ltb-false, le-ltb, eq-eqb, ne-eqb, eqb-true, eqb-false}
 use Rattle.zone.specs.declared.figures.Group.{Group}
 use Rattle.zone.specs.declared.figures.Group.the-variants.{Ahue, Hzbg, Rrue, Solw}
 use Rattle.zone.specs.declared.figures.Figures.{Figures}
@@ -26,8 +26,8 @@ use Rattle.wire.specs.Road.{entryBytes, inOrder, figureBytes, lengthOf, none, n
 use Rattle.wire.proofs.Choices.{by-cond}
 use Rattle.line.specs.declared.reading.Reading.{Reading}
 use Rattle.line.specs.Line.{digitsFor, L, S, textRoad, lineOf, groupNamed, namedRead, lineRead}
-use Rattle.line.specs.Places.{Place, nowhere, offset, told, Expected, wrongFrom, figuresExpected, formFor, meets, expectedAs, wrongAs, namedWrong, wrongIn, outFrom, endFigure, outOf, namedExpects, expectedIn}
-use Rattle.line.specs.Rules.{SyntaxHasPlace, SyntaxPlaceWithin, RangeHasPlace, BehindSpace, RangePlaceWithin, ExpectedThere}
+use Rattle.line.specs.Places.{Place, nowhere, offset, told, Expected, wrongFrom, figuresExpected, formFor, meets, expectedAs, wrongAs, namedWrong, wrongIn, outFrom, endOffset, outOf, namedExpects, expectedIn}
+use Rattle.line.specs.Rules.{SyntaxHasPlace, SyntaxPlaceWithin, RangeHasPlace, BehindSpace, RangePlaceWithin, EndPlaced, ExpectedThere}
 use Rattle.line.specs.Inner.{Walked, all, wrong, walk, readBy, formWalked}
 use Rattle.line.proofs.DigitRule.{digits-length}
 use Rattle.line.proofs.Round.{line-only}
@@ -180,7 +180,7 @@ syntax-place-within l n e =
     (λ t k. no-place k)
     (λ t k. named-within (groupNamed (take 4 (drop 1 l))) l n (ltb-false _ _ t) k)
 
--- ---- a figure out of range
+-- ---- figures out of range
 
 out-when : (range i : ℕ) (es : List Entry) → (every (fits range) es ≡ false) ↔ ((n : ℕ) × (outFrom range i es ≡ offset n))
 unfolding outFrom
@@ -197,10 +197,10 @@ unfolding inRange eachInRange outOf
 range-has-place range figures = by-tests (every (fits range) (entriesOf figures)) (opens figures) (out-when range 5 (entriesOf figures))
   where
     by-tests : (t u : Bool) → (t ≡ false) ↔ ((n : ℕ) × (outFrom range 5 (entriesOf figures) ≡ offset n))
-        → ((t && u) ≡ false) ↔ ((n : ℕ) × (cond t (cond u nowhere (offset endFigure)) (outFrom range 5 (entriesOf figures)) ≡ offset n))
+        → ((t && u) ≡ false) ↔ ((n : ℕ) × (cond t (cond u nowhere (offset endOffset)) (outFrom range 5 (entriesOf figures)) ≡ offset n))
     by-tests false u own = own
     by-tests true true own = ((λ e. never (sym e)), (λ p. no-place (p .1)))
-    by-tests true false own = ((λ e. (endFigure, refl)), (λ p. refl))
+    by-tests true false own = ((λ e. (endOffset, refl)), (λ p. refl))
 
 out-within : (range i : ℕ) (es : List Entry) (n : ℕ) → outFrom range i es ≡ offset n → (i < n) × (n < i + total (λ e. textRoad .width (e .column .kind)) es)
 unfolding outFrom
@@ -264,8 +264,26 @@ last-space pre (x ∷ es) e =
     let m : length pre + (textRoad .width (x .column .kind) + total (λ e. textRoad .width (e .column .kind)) es) ≡ length (pre ++ entryBytes textRoad x) + total (λ e. textRoad .width (e .column .kind)) es = omega (arith, l) in
     rw (m, ← append-assoc pre (entryBytes textRoad x) (inOrder textRoad (es ++ (e ∷ [])))) (last-space (pre ++ entryBytes textRoad x) es e)
 
+-- and behind it its digits, to the line's end
+last-digits : (pre : List ℕ) (es : List Entry) (e : Entry)
+    → drop (length pre + total (λ e. textRoad .width (e .column .kind)) es + 1) (pre ++ inOrder textRoad (es ++ (e ∷ []))) ≡ digitsFor (digits (e .column .kind)) (e .number)
+last-digits pre [] e =
+    let n : length (pre ++ (32 ∷ [])) ≡ length pre + 0 + 1 = rw length-append (omega arith) in
+    rw (append-nil (digitsFor (digits (e .column .kind)) (e .number)), ← append-assoc pre (32 ∷ []) (digitsFor (digits (e .column .kind)) (e .number))) (drop-at (pre ++ (32 ∷ [])) (digitsFor (digits (e .column .kind)) (e .number)) (length pre + 0 + 1) n)
+last-digits pre (x ∷ es) e =
+    let l : length (pre ++ entryBytes textRoad x) ≡ length pre + textRoad .width (x .column .kind) = rw (length-append, digits-length (digits (x .column .kind)) (x .number)) (omega arith) in
+    let m : length pre + (textRoad .width (x .column .kind) + total (λ e. textRoad .width (e .column .kind)) es) ≡ length (pre ++ entryBytes textRoad x) + total (λ e. textRoad .width (e .column .kind)) es = omega (arith, l) in
+    rw (m, ← append-assoc pre (entryBytes textRoad x) (inOrder textRoad (es ++ (e ∷ [])))) (last-digits (pre ++ entryBytes textRoad x) es e)
+
+pub end-placed : EndPlaced
+unfolding lineOf outOf
+end-placed range f e h = record {
+  place = rw (e, le-ltb (f .begin) (f .end) h);
+  its-digits = last-digits (S ∷ name Ahue) (take 4 (entriesOf (AhueWindow f))) (getD (entriesOf (AhueWindow f)) 4 (record { column = setpoint; number = 0 }));
+}
+
 -- where a row breaks its rule it is a window, whose end is the last figure
-end-within : (figures : Figures) → opens figures ≡ false → BehindSpace (lineOf (Write figures)) endFigure
+end-within : (figures : Figures) → opens figures ≡ false → BehindSpace (lineOf (Write figures)) endOffset
 unfolding lineOf
 end-within (AhueWindow f) e = record { behind-letters = omega arith; within-line = omega (arith, write-length (AhueWindow f)); space-before = space }
   where
@@ -289,7 +307,7 @@ write-within range figures n o =
     by-cond (opens figures) k
     (λ u h. no-place h)
     (λ u h.
-    let m : endFigure ≡ n = cc in
+    let m : endOffset ≡ n = cc in
     rw (← m) (end-within figures u)))
     (λ t k. figure-within range figures n k)
 

@@ -1,4 +1,4 @@
--- Where a line is wrong: document 02, Req 04, "Say where the line is wrong". An offset counts the line's bytes from 0.
+-- Where a line is wrong: document 02, Req 04, "Say where the line is wrong", and of a window Req 06. An offset counts the line's bytes from 0.
 use Prim.Native.Nat.{ℕ, zero, suc, _+_, _-_}
 use mathlib.Core.Bool.{Bool, cond, _||_}
 use mathlib.Core.List.{List, [], _∷_, _++_}
@@ -90,13 +90,13 @@ unfoldable pub outFrom : ℕ → ℕ → List Entry → Place
 outFrom range i [] = nowhere
 outFrom range i (e ∷ es) = cond (fits range e) (outFrom range (i + textRoad .width (e .column .kind)) es) (offset (i + 1))
 
--- where a window's end starts: its three digits are the last of the line
-abbrev pub endFigure : ℕ
-endFigure = lengthOf textRoad window - digits time
+-- the offset of a window's end figure: its three digits are the last of the line
+abbrev pub endOffset : ℕ
+endOffset = lengthOf textRoad window - digits time
 
--- a window whose begin is not below its end is "placed at the end figure if each figure is in its own range" (document 02, Req 06); else it is the first figure out of its own range. The figures stand behind the five letters
+-- a window whose begin is not below its end is "placed at the end figure if each figure is in its own range" (document 02, Req 06); else the place is that of the first figure out of its own range. The figures stand behind the five letters
 unfoldable pub outOf : ℕ → Figures → Place
-outOf range figures = cond (eachInRange range figures) (cond (opens figures) nowhere (offset endFigure)) (outFrom range 5 (entriesOf figures))
+outOf range figures = cond (eachInRange range figures) (cond (opens figures) nowhere (offset endOffset)) (outFrom range 5 (entriesOf figures))
 
 -- what is found of the figures of a line that was read; only a write has any
 abbrev pub ofFigures : {A : Type 0} → (Figures → A) → A → Parsed → A

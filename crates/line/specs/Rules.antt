@@ -6,10 +6,12 @@ use mathlib.Core.Bool.{true, false}
 use mathlib.Core.List.{List, [], _∷_, map}
 use lib.ListN.{length, getD, drop}
 use Rattle.zone.specs.declared.figures.Figures.{Figures}
+use Rattle.zone.specs.declared.figures.Figures.the-variants.{AhueWindow}
+use Rattle.zone.specs.declared.figures.WindowFigures.{WindowFigures}
 use Rattle.zone.specs.declared.figures.Command.{Command}
 use Rattle.zone.specs.Table.{everyForm}
 use Rattle.zone.specs.declared.figures.Command.the-variants.{Write}
-use Rattle.zone.specs.Figures.{inRange}
+use Rattle.zone.specs.Figures.{eachInRange, inRange}
 use Rattle.wire.specs.declared.Figure.the-variants.{Value}
 use Rattle.wire.specs.declared.Parsed.the-variants.{Known, Syntax}
 use Rattle.wire.specs.Road.{carriesCommand, lengthOf}
@@ -59,6 +61,14 @@ pub record BehindSpace (line : List ℕ) (n : ℕ) : Type 0 where
 
 abbrev pub RangePlaceWithin : Type 0
 RangePlaceWithin = (line : List ℕ) (range : ℕ) (figures : Figures) (n : ℕ) → lineRead line ≡ Known (Write figures) → outOf range figures ≡ offset n → BehindSpace line n
+
+-- a window with begin not below end is "placed at the end figure if each figure is in its own range" (document 02, Req 06): at 20, where the digits of its end stand. `end-placed`, in proofs/Placed.antt
+pub record AtTheEnd (range : ℕ) (window : WindowFigures) : Type 0 where
+  pub place : outOf range (AhueWindow window) ≡ offset 20
+  pub its-digits : drop 20 (lineOf (Write (AhueWindow window))) ≡ digitsFor 3 (window .end)
+
+abbrev pub EndPlaced : Type 0
+EndPlaced = (range : ℕ) (window : WindowFigures) → eachInRange range (AhueWindow window) ≡ true → window .end ≤ window .begin → AtTheEnd range window
 
 -- what is expected in a wrong line is what its place was found by. `expected-there`, in proofs/Placed.antt
 abbrev pub ExpectedThere : Type 0

@@ -1,4 +1,4 @@
--- Worked places, as document 02's request and its examples have them: a line, what it is found to be wrong at; and for figures out of range the zone's temperature range.
+-- Worked places: a line, the place of its 8, and the place of its 9 in a zone of 300 degrees.
 use Prim.Native.String.{String}
 use mathlib.Core.List.{List, [], _∷_}
 use Rattle.zone.specs.Lists.{ascii}
@@ -10,7 +10,6 @@ pub record Example : Type 0 where
   pub wrong : Place
   pub out : Place
 
--- in a zone of 300 degrees
 abbrev pub examples : List Example
 examples =
     -- stops short: the line's length
@@ -32,7 +31,7 @@ examples =
     record { line = "SSOLW 301"; wrong = nowhere; out = offset 6 } ∷
     record { line = "SAHUE 1 100 004 010"; wrong = nowhere; out = offset 8 } ∷
     record { line = "SAHUE 1 010 010 100 000"; wrong = nowhere; out = offset 20 } ∷
-    -- a window that does not open before it closes (Req 06): its end, unless an earlier figure is out of its own range
+    -- a window that does not open before it closes (Req 06): its end, unless another figure is out of its own range
     record { line = "SAHUE 1 010 010 500 200"; wrong = nowhere; out = offset 20 } ∷
     record { line = "SAHUE 1 010 010 200 200"; wrong = nowhere; out = offset 20 } ∷
     record { line = "SAHUE 1 010 010 200 201"; wrong = nowhere; out = nowhere } ∷

@@ -47,7 +47,7 @@ module _ (r : Record) (n : ℕ) (line room : List ℕ) where
   nine-of false true e = absurd (omega (arith, e))
   nine-of false false e = absurd (omega (arith, e))
 
-  -- 8 is given to a syntax error alone, and 9 to a write with a figure out of range
+  -- 8 is given to a syntax error alone, and 9 to a write whose figures are out of range
   eight-read : (p : Parsed) → rest p ≡ 8 → p ≡ Syntax
   eight-read (Known (Read g)) e = absurd (omega (arith, e))
   eight-read (Known (Write f)) e = absurd (two (not (inRange (zoneAt r n .range) f)) (locks (zoneAt r n .status .state) (groupOf f)) e)

@@ -2,8 +2,8 @@
 use mathlib.Core.Path.{_≡_, refl}
 use mathlib.Core.List.{map}
 use Rattle.zone.specs.Figures.{eachInRange, inRange, allZero}
-use Rattle.zone.specs.Zones.{zoneOtherwiseSound}
-use Rattle.card.specs.Records.{differ, otherwiseSound, sound, findFrom}
+use Rattle.zone.specs.Zones.{zoneOtherwiseSound, zoneSound}
+use Rattle.card.specs.Records.{differ, sound, findFrom}
 use Rattle.wire.specs.Road.{formRead, writeRead}
 use Rattle.line.specs.Field.{upToSpace, digitsBehind, figureOf}
 use Rattle.line.specs.Line.{same, groupNamed, lineRead}
@@ -14,5 +14,5 @@ use Rattle.roads.specs.Calls.{answerText, answerFrame}
 use Rattle.roads.specs.Worked.{examples, seen, expected}
 
 pub worked : map seen examples ≡ map expected examples
-unfolding inRange eachInRange allZero zoneOtherwiseSound differ otherwiseSound sound findFrom formRead writeRead upToSpace digitsBehind figureOf same groupNamed lineRead sumOf groupIndexed bodyRead textReply frameReply answerText answerFrame
+unfolding inRange eachInRange allZero zoneSound zoneOtherwiseSound differ sound findFrom formRead writeRead upToSpace digitsBehind figureOf same groupNamed lineRead sumOf groupIndexed bodyRead textReply frameReply answerText answerFrame
 worked = refl

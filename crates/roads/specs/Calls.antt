@@ -101,7 +101,7 @@ unfoldable pub answerText : Record → ℕ → List ℕ → List ℕ → Answere
 answerText r n line room = inTextReply (textResult r n line room) room
 
 -- The place, which stands beside what is answered: "Wire replies stay as they are" (document 02, Req 04). "Answers 8 and 9 on the text road carry that place, all others 0":
--- 8 where the line is wrong, 9 where the first figure starts that is out of range in a zone of that temperature range
+-- 8 where the line is wrong, 9 where the first figure starts that is out of range in a zone of that temperature range or, where each is in its own, the end of a window that does not open before it closes (Req 06)
 abbrev pub placeBy : ℕ → ℕ → List ℕ → ℕ
 placeBy number range line = cond (eqb number 8) (told (wrongIn line)) (cond (eqb number 9) (told (outIn range (lineRead line))) 0)
 

@@ -60,7 +60,7 @@ unfoldable pub rangeMissed : ℕ → List Entry → List ℕ
 rangeMissed range [] = []
 rangeMissed range (e ∷ es) = cond (fits range e) (rangeMissed range es) (between (e .column .lowest) (e .column .highest range))
 
--- a window's end, the fifth of its row
+-- a window's end, the fifth of its row (the default is never reached)
 abbrev pub endColumn : Column
 endColumn = getD (layout window .columns) 4 setpoint
 

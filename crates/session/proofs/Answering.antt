@@ -18,7 +18,7 @@ use Rattle.card.specs.Records.{zoneAt, withZone}
 use Rattle.card.specs.Calls.{addOf, removeOf, reportOf, applyOf, Repair, repairOf}
 use Rattle.card.specs.Rules.{InOrder, Keeps, ExactlyWhen}
 use Rattle.card.proofs.Kept.{add-order, remove-order, report-order, apply-order, write-order, add-exactly, remove-exactly, report-exactly, apply-exactly, add-keeps, remove-keeps, report-keeps, apply-keeps}
-use Rattle.card.proofs.Repairs.{repair-order, repair-exactly, repair-refused}
+use Rattle.card.proofs.Repairs.{repair-order, repair-exactly, repair-not-done}
 use Rattle.wire.specs.Road.{carriesCommand}
 use Rattle.wire.specs.Room.{filled}
 use Rattle.line.specs.Line.{textRoad, lineOf, lineRead}
@@ -141,7 +141,7 @@ refused r (quiet (add n a range)) u = kept r (addOf r n a range) (add-keeps r n 
 refused r (quiet (remove n)) u = kept r (removeOf r n) (remove-keeps r n) u
 refused r (quiet (report n state actual)) u = kept r (reportOf r n state actual) (report-keeps r n state actual) u
 refused r (quiet (apply n c)) u = kept r (applyOf r n c) (apply-keeps r n c) u
-refused r (quiet repair) u = let e = repair-refused r u in rw (ap (λ (o : Repair). o .result .after) e, ap (λ (o : Repair). o .result .values) e)
+refused r (quiet repair) u = let e = repair-not-done r u in rw (ap (λ (o : Repair). o .result .after) e, ap (λ (o : Repair). o .result .values) e)
 
 -- ---- the room keeps its length
 

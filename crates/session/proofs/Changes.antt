@@ -1,4 +1,4 @@
--- What a call does to a zone: nothing, or what a done write, report, removal or addition sets. Assumes nothing.
+-- What a call does to a zone: nothing, or what a done write, report, removal, addition or repair sets. Assumes nothing.
 use Prim.Native.Nat.{ℕ}
 use mathlib.Core.Path.{_≡_, refl, sym, ap, _∙_, subst}
 use mathlib.Core.Bool.{Bool, true, false, cond}
@@ -23,7 +23,7 @@ use Rattle.card.specs.Records.{zoneAt, withZone, findOf}
 use Rattle.card.specs.Calls.{addOf, applyOf}
 use Rattle.card.proofs.Kept.{add-exactly, add-keeps, remove-keeps, report-keeps, apply-keeps}
 use Rattle.card.proofs.Found.{find-own}
-use Rattle.card.proofs.Repairs.{shut-present, repair-mends}
+use Rattle.card.proofs.Repairs.{repair-done, shut-present, repair-mends}
 use Rattle.card.proofs.Sets.{remove-at-zone, report-at-zone, write-at-zone, add-sets, remove-sets, report-sets, write-sets, read-alters-nothing}
 use Rattle.wire.specs.declared.Parsed.the-variants.{Known}
 use Rattle.line.specs.Line.{lineRead}
@@ -31,7 +31,7 @@ use Rattle.frame.specs.declared.reading.Framed.the-variants.{Request}
 use Rattle.frame.specs.Frame.{addressIn, frameRead}
 use Rattle.roads.specs.Calls.{textResult, answerText, frameResult, answerFrame}
 use Rattle.session.specs.Sessions.{text, frame, composeLine, composeFrame, add, remove, report, apply, repair, Call, inRoom, quiet, after, Done}
-use Rattle.session.specs.Changes.{Writes, by-apply, by-line, by-frame, Reports, reported, Removes, removed, Adds, added, Mends, mended, WhatIsDoneIsSet, Becomes, stays, written, was-reported, was-removed, was-added, was-mended, EveryZoneBecomes}
+use Rattle.session.specs.Changes.{Writes, by-apply, by-line, by-frame, Reports, reported, Removes, removed, Adds, added, Repairs, repaired, WhatIsDoneIsSet, Becomes, stays, written, was-reported, was-removed, was-added, was-mended, EveryZoneBecomes}
 use Rattle.session.proofs.Answering.{record-kept, by-done}
 use Rattle.session.proofs.Done.{Applied, line-is-done, frame-is-done}
 
@@ -107,8 +107,8 @@ add-absent r m a range d = add-exactly r m a range .done .0 d 2
 repair-becomes : (r : Record) (n : ℕ) → Done r (quiet repair) → Becomes r n (quiet repair) (zoneAt (after r (quiet repair)) n)
 repair-becomes r n d =
     by-window (zoneAt r n)
-    (λ w. stays (repair-mends r d .others n (λ f s. not-shut (zoneAt r n) f w s)))
-    (λ f s. was-mended f (mended d s) (shut-present r n f d s) (repair-mends r d .ends n f s))
+    (λ w. stays (repair-mends r (repair-done r d) .others n (λ f s. not-shut (zoneAt r n) f w s)))
+    (λ f s. was-mended f (repaired d s) (shut-present r n f d s) (repair-mends r (repair-done r d) .ends n f s))
 
 pub becomes : EveryZoneBecomes
 becomes r (inRoom (text m line) room) n = text-becomes r m line room n
@@ -167,8 +167,8 @@ emptied r call n (removed d) = remove-sets r n d
 made-new : (r : Record) (call : Call) (n address range : ℕ) → Adds n address range r call → zoneAt (after r call) n ≡ newZone address range
 made-new r call n address range (added d) = add-sets r n address range d
 
-end-set : (r : Record) (call : Call) (n : ℕ) (f : WindowFigures) → Mends n f r call → SetsFigures (zoneAt r n) (AhueWindow (opened f)) (zoneAt (after r call) n)
-end-set r call n f (mended d s) = repair-mends r d .ends n f s
+end-set : (r : Record) (call : Call) (n : ℕ) (f : WindowFigures) → Repairs n f r call → SetsFigures (zoneAt r n) (AhueWindow (opened f)) (zoneAt (after r call) n)
+end-set r call n f (repaired d s) = repair-mends r (repair-done r d) .ends n f s
 
 pub sets : WhatIsDoneIsSet
 sets r call n = record { figures-set = figures-set r call n; status-set = status-set r call n; emptied = emptied r call n; made-new = made-new r call n; end-set = end-set r call n }

@@ -93,7 +93,7 @@ write-replies r n f room = record { by-line = line-reply r n f room; by-frame = 
 
 -- ---- when a write is done
 
--- past 2 and 3 a write is judged by its ranges and by the lock
+-- past 2 and 3 a write is judged by its ranges, the window's rule and the lock
 apply-number : (r : Record) (n : ℕ) (f : Figures) → Present r n → applyOf r n (Write f) .number ≡ writeNumber (zoneAt r n) f
 unfolding applyOf
 apply-number r n f p = rw (p .sound-record, lt-leb 16 n (p .below), p .present) (by-range (inRange (zoneAt r n .range) f) (locks (zoneAt r n .status .state) (groupOf f)))

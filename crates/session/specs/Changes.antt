@@ -40,8 +40,8 @@ pub data Adds (n address range : ℕ) (r : Record) : Call → Type 0 where
   added : Done r (quiet (add n address range)) → Adds n address range r (quiet (add n address range))
 
 -- a done repair, where zone n has a window whose begin is not below its end
-pub data Mends (n : ℕ) (window : WindowFigures) (r : Record) : Call → Type 0 where
-  mended : Done r (quiet repair) → Shut (zoneAt r n) window → Mends n window r (quiet repair)
+pub data Repairs (n : ℕ) (window : WindowFigures) (r : Record) : Call → Type 0 where
+  repaired : Done r (quiet repair) → Shut (zoneAt r n) window → Repairs n window r (quiet repair)
 
 -- what is done is set: "A done write sets exactly the figures of its group in its zone"; "A done report sets exactly the state and the actual value of its zone"; "Removing empties the zone"; a done addition gives the new zone; a repair "sets the end to begin + 1 in each such zone"
 pub record Sets (r : Record) (n : ℕ) (call : Call) (z : Zone) : Type 0 where
@@ -49,7 +49,7 @@ pub record Sets (r : Record) (n : ℕ) (call : Call) (z : Zone) : Type 0 where
   pub status-set : (state actual : ℕ) → Reports n state actual r call → SetsStatus (zoneAt r n) (record { state = stateNumbered state; actual = actual }) z
   pub emptied : Removes n r call → z ≡ emptyZone
   pub made-new : (address range : ℕ) → Adds n address range r call → z ≡ newZone address range
-  pub end-set : (window : WindowFigures) → Mends n window r call → SetsFigures (zoneAt r n) (AhueWindow (opened window)) z
+  pub end-set : (window : WindowFigures) → Repairs n window r call → SetsFigures (zoneAt r n) (AhueWindow (opened window)) z
 
 -- `sets`, in proofs/Changes.antt: of every call and every zone
 abbrev pub WhatIsDoneIsSet : Type 0
@@ -62,7 +62,7 @@ pub data Becomes (r : Record) (n : ℕ) (call : Call) (z : Zone) : Type 0 where
   was-reported : (state actual : ℕ) → Reports n state actual r call → zoneAt r n .present ≡ true → SetsStatus (zoneAt r n) (record { state = stateNumbered state; actual = actual }) z → Becomes r n call z
   was-removed : Removes n r call → zoneAt r n .present ≡ true → z ≡ emptyZone → Becomes r n call z
   was-added : (address range : ℕ) → Adds n address range r call → zoneAt r n .present ≡ false → z ≡ newZone address range → Becomes r n call z
-  was-mended : (window : WindowFigures) → Mends n window r call → zoneAt r n .present ≡ true → SetsFigures (zoneAt r n) (AhueWindow (opened window)) z → Becomes r n call z
+  was-mended : (window : WindowFigures) → Repairs n window r call → zoneAt r n .present ≡ true → SetsFigures (zoneAt r n) (AhueWindow (opened window)) z → Becomes r n call z
 
 -- `becomes`, in proofs/Changes.antt: of every call, whatever it is and whatever it is answered, and of every zone
 abbrev pub EveryZoneBecomes : Type 0
@@ -81,4 +81,4 @@ NotGiven address r call = (n range : ℕ) → Adds n address range r call → �
 pub record NotRewritten (n : ℕ) (group : Group) (r : Record) (call : Call) : Type 0 where
   pub not-written : (figures : Figures) → groupOf figures ≡ group → Writes n figures r call → ⊥
   pub not-removed : Removes n r call → ⊥
-  pub not-mended : group ≡ Ahue → (window : WindowFigures) → Mends n window r call → ⊥
+  pub not-mended : group ≡ Ahue → (window : WindowFigures) → Repairs n window r call → ⊥

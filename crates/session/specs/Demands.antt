@@ -1,4 +1,4 @@
--- The three demands, in the buyer's order and words. Above each statement stands where it is proved.
+-- The three demands, in the buyer's order and words, and at the end what document 02's Req 06 says of sessions. Above each statement stands where it is proved.
 -- "P → ⊥" says that P does not hold, "P ⊎ Q" that one of the two does, "P × Q" that both do.
 use Prim.Native.Nat.{ℕ, _≤_, _<_, min}
 use mathlib.Core.Path.{_≡_}
@@ -99,7 +99,7 @@ pub record EndsWell (r : Record) (call : Call) : Type 0 where
   -- "Given exactly when" and "Where several apply, the first in the call's order is given" (document 01): each number exactly where its test holds and no earlier one does, 0 exactly where none holds, and the numbers stand in the printed order
   pub exactly : ExactlyWhen (refusals r call) (answerTo r call .said .number)
   pub in-order : InOrder (refusals r call) (order call)
-  -- "A refused call leaves the record as it was and writes nothing but the acknowledgement fixed there." It tells no figures, and the room keeps its contents behind the acknowledgement
+  -- "A refused call leaves the record as it was and writes nothing but the acknowledgement fixed there." It tells no figures, and the room keeps its contents behind the acknowledgement. (That a refused repair tells no old ends: RepairRefused, in card/specs/Rules.antt)
   pub refused : (Done r call → ⊥) → answerTo r call ≡ record { said = said (answerTo r call .said .number) [] (fixed call (answerTo r call .said .number)) (lent call); after = r }
   -- whatever is answered fits the room, which keeps its length
   pub same-room : length (answerTo r call .said .room) ≡ length (lent call)
@@ -203,7 +203,7 @@ pub record WriteReply (r : Record) (n : ℕ) (figures : Figures) (room : List �
 abbrev pub WritesAreReplied : Type 0
 WritesAreReplied = (r : Record) (n : ℕ) (figures : Figures) (room : List ℕ) → WriteReply r n figures room
 
--- a write to a present zone of a sound record, with room of 32 bytes, is refused with 9 where a figure is out of its range, else with 10 where the state locks its group, and else done: so a card that refuses all is none
+-- a write to a present zone of a sound record, with room of 32 bytes, is refused with 9 where its figures are out of range (one of them out of its own, or the window's rule broken), else with 10 where the state locks its group, and else done: so a card that refuses all is none
 abbrev pub writeNumber : Zone → Figures → ℕ
 writeNumber z figures = cond (inRange (z .range) figures) (cond (locks (z .status .state) (groupOf figures)) 10 0) 9
 
@@ -347,7 +347,7 @@ StaysStored = (r : Record) (n : ℕ) (group : Group) (calls : List Call) → zon
 
 -- ---- "A window must open before it closes", and "for cards in the field a repair call" (document 02, Req 06)
 
--- "A window with begin not below end now gives 9 on both roads": whatever its other figures and whatever the state, sent to a present zone of a sound record, with room of 32 bytes, by a road that can carry it
+-- "A window with begin not below end now gives 9 on both roads": whatever its other figures and whatever the state, applied to a present zone of a sound record, or sent to it, with room of 32 bytes, by a road that can carry it
 pub record GivesNine (r : Record) (n : ℕ) (window : WindowFigures) (room : List ℕ) : Type 0 where
   pub applied : answerTo r (quiet (apply n (Write (AhueWindow window)))) .said .number ≡ 9
   pub by-line : carriesCommand textRoad (Write (AhueWindow window)) ≡ true → answerText r n (lineOf (Write (AhueWindow window))) room .said .number ≡ 9
@@ -357,14 +357,11 @@ pub record GivesNine (r : Record) (n : ℕ) (window : WindowFigures) (room : Lis
 abbrev pub ShutGivesNine : Type 0
 ShutGivesNine = (r : Record) (n : ℕ) (window : WindowFigures) (room : List ℕ) → window .end ≤ window .begin → Present r n → 32 ≤ length room → GivesNine r n window room
 
--- the calls that test soundness, past their room: all but composing, to which no record is handed, and the repair itself
-pub data TestsSoundness : Call → Type 0 where
-  of-text : (n : ℕ) (line room : List ℕ) → 32 ≤ length room → TestsSoundness (inRoom (text n line) room)
-  of-frame : (bytes room : List ℕ) → 32 ≤ length room → TestsSoundness (inRoom (frame bytes) room)
-  of-add : (n address range : ℕ) → TestsSoundness (quiet (add n address range))
-  of-remove : (n : ℕ) → TestsSoundness (quiet (remove n))
-  of-report : (n state actual : ℕ) → TestsSoundness (quiet (report n state actual))
-  of-apply : (n : ℕ) (command : Command) → TestsSoundness (quiet (apply n command))
+-- a call that tests soundness, past its room: 2 is in its order, it is not the repair itself, and it is lent the room of 32 bytes, if it may be refused for its room
+pub record TestsSoundness (call : Call) : Type 0 where
+  pub two : among 2 (order call) ≡ true
+  pub other : call ≡ quiet repair → ⊥
+  pub served : among 1 (order call) ≡ true → 32 ≤ length (lent call)
 
 -- "and is not sound": each of them, a read too, is refused with 2, in silence, where some zone has such a window, whatever zone it is meant for.
 -- `shut-gives-two`, in proofs/Unsound.antt
@@ -382,3 +379,7 @@ NoRepair r call = call ≡ quiet repair → ⊥
 
 abbrev pub UnsoundStays : Type 0
 UnsoundStays = (r : Record) (calls : List Call) → sound r ≡ false → Throughout NoRepair r calls → run r calls ≡ r
+
+-- a record with another fault not even by a repair. `faulty-stays`, in proofs/Unsound.antt
+abbrev pub FaultyStays : Type 0
+FaultyStays = (r : Record) (calls : List Call) → otherwiseSound r ≡ false → run r calls ≡ r

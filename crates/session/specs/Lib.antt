@@ -1,4 +1,4 @@
--- Sessions of calls, and the buyer's three demands on them. Start with Demands.
+-- Sessions of calls, the buyer's three demands on them, and what requests of document 02 say of them. Start with Demands.
 pub mod Sessions
 pub mod Changes
 pub mod Demands

@@ -15,7 +15,7 @@ pub data Speaking : Type 0 where
   composeLine : Command → Speaking
   composeFrame : ℕ → Command → Speaking
 
--- a call without a room, which replies nothing; what it tells is handed back (the old ends of a repair beside what every call hands back, in repairOf)
+-- a call without a room, which replies nothing; what it tells is handed back. The old ends that a repair tells stand in repairOf, and not in a session's answers
 pub data Quiet : Type 0 where
   add : ℕ → ℕ → ℕ → Quiet
   remove : ℕ → Quiet

@@ -5,17 +5,17 @@ use mathlib.Core.Bool.{Bool, true, false}
 use native.Mathlib.Omega.{arith}
 use lib.Dec.{leb, ltb, leb·zero}
 use borrow.Author.Tests.{leb-true, le-leb, lt-ltb, le-ltb, ltb-false}
-use Rattle.zone.specs.declared.figures.Figures.the-variants.{AhueWindow}
+use Rattle.zone.specs.declared.figures.Figures.the-variants.{AhueDeadline, AhueWindow, HzbgLimit, RrueReference, SolwSetpoint}
 use Rattle.zone.specs.declared.figures.WindowFigures.{WindowFigures}
 use Rattle.zone.specs.declared.zones.Watch.{Watch}
 use Rattle.zone.specs.declared.zones.Watch.the-variants.{Deadline, Window}
 use Rattle.zone.specs.declared.zones.Zone.{Zone}
 use Rattle.zone.specs.Figures.{eachInRange, opens, inRange}
 use Rattle.zone.specs.Zones.{watchFigures, isDeadline, zoneOtherwiseSound, windowOpens, withWatch, opened, openedWatch, mended}
-use Rattle.zone.specs.Rules.{SetsFigures, Shut, RuleBroken}
+use Rattle.zone.specs.Rules.{SetsFigures, Shut, RuleBroken, RangeAsBefore, SoundAsBefore}
 use Rattle.zone.specs.Inner.{beginOf}
 use Rattle.zone.proofs.Tests.{never, and-l, and-r, and-false}
-use Rattle.zone.proofs.Sound.{otherwise-fits, otherwise-fitting, otherwise-empty}
+use Rattle.zone.proofs.Sound.{otherwise-fits, otherwise-fitting, range-kept, sound-kept, otherwise-empty}
 use Rattle.zone.proofs.Written.{sets-figures}
 
 -- an absent zone has no window; so a zone that has one is present
@@ -77,7 +77,21 @@ pub not-shut : (z : Zone) (f : WindowFigures) → windowOpens z ≡ true → Shu
 not-shut z f w s = never (sym (shut-breaks z f s) ∙ w)
 
 pub rule-broken : RuleBroken
-rule-broken z = ((λ e. by-window z (λ w. never (sym e ∙ w)) (λ f s. (f, s))), (λ p. shut-breaks z (p .0) (p .1)))
+rule-broken (AhueWindow f) = ((λ e. (f, refl, ltb-false (f .begin) (f .end) e)), (λ p. ap opens (p .1) ∙ le-ltb (p .0 .begin) (p .0 .end) (p .2)))
+rule-broken (AhueDeadline f) = ((λ e. never (sym e)), (λ p. ap opens (p .1) ∙ le-ltb (p .0 .begin) (p .0 .end) (p .2)))
+rule-broken (HzbgLimit f) = ((λ e. never (sym e)), (λ p. ap opens (p .1) ∙ le-ltb (p .0 .begin) (p .0 .end) (p .2)))
+rule-broken (RrueReference f) = ((λ e. never (sym e)), (λ p. ap opens (p .1) ∙ le-ltb (p .0 .begin) (p .0 .end) (p .2)))
+rule-broken (SolwSetpoint f) = ((λ e. never (sym e)), (λ p. ap opens (p .1) ∙ le-ltb (p .0 .begin) (p .0 .end) (p .2)))
+
+pub range-as-before : RangeAsBefore
+range-as-before range figures u = by-rule (opens figures) refl
+  where
+    by-rule : (t : Bool) → opens figures ≡ t → inRange range figures ≡ eachInRange range figures
+    by-rule true e = range-kept range figures e
+    by-rule false e = let w = rule-broken figures .0 e in absurd (u (w .0) (w .1) (w .2))
+
+pub sound-as-before : SoundAsBefore
+sound-as-before z u = by-window z (sound-kept z) (λ f s. absurd (u f s))
 
 -- a write of such a window is out of range, whatever its other figures
 pub shut-out : (range : ℕ) (f : WindowFigures) → f .end ≤ f .begin → inRange range (AhueWindow f) ≡ false

@@ -16,8 +16,7 @@ use Rattle.zone.specs.declared.zones.Settings.{Settings}
 use Rattle.zone.specs.declared.zones.Zone.{Zone}
 use Rattle.zone.specs.Lists.{isZero}
 use Rattle.zone.specs.Figures.{eachInRange, opens, inRange, allZero}
-use Rattle.zone.specs.Zones.{newZone, emptyZone, watchFigures, figuresOf, addressInRange, rangeKnown, actualInRange, isOff, isDeadline, groupsInRange, presentSound, groupsZero, holdsNothing, zoneOtherwiseSound, windowOpens, zoneSound, withStatus, withFigures}
-use Rattle.zone.specs.Rules.{RangeAsBefore, SoundAsBefore}
+use Rattle.zone.specs.Zones.{newZone, emptyZone, watchFigures, figuresOf, addressInRange, rangeKnown, actualInRange, isOff, isDeadline, groupsEachInRange, presentOtherwiseSound, groupsZero, holdsNothing, zoneOtherwiseSound, windowOpens, zoneSound, withStatus, withFigures}
 use Rattle.zone.proofs.Tests.{never, both, and-l, and-r}
 
 -- the parts of a present zone's soundness, one by one
@@ -43,8 +42,8 @@ pub record OtherwiseFit (z : Zone) : Type 0 where
 pub otherwise-fits : (z : Zone) → z .present ≡ true → zoneOtherwiseSound z ≡ true → OtherwiseFit z
 unfolding zoneOtherwiseSound
 otherwise-fits z p s =
-    let h : presentSound z ≡ true = rw p at s in
-    let groups : groupsInRange z ≡ true = search (and-l, and-r) in
+    let h : presentOtherwiseSound z ≡ true = rw p at s in
+    let groups : groupsEachInRange z ≡ true = search (and-l, and-r) in
     record {
       address = search (and-l, and-r);
       range = search (and-l, and-r);
@@ -62,13 +61,13 @@ otherwise-fitting z p k = rw p (rw (k .address, k .range, k .actual, k .ahue, k 
 -- ---- the rule
 
 -- what keeps it is judged by its figures' own ranges, as it was before the rule
-pub range-as-before : RangeAsBefore
+pub range-kept : (range : ℕ) (f : Figures) → opens f ≡ true → inRange range f ≡ eachInRange range f
 unfolding inRange
-range-as-before range f e = rw e (and-true (eachInRange range f))
+range-kept range f e = rw e (and-true (eachInRange range f))
 
-pub sound-as-before : SoundAsBefore
+pub sound-kept : (z : Zone) → windowOpens z ≡ true → zoneSound z ≡ zoneOtherwiseSound z
 unfolding zoneSound
-sound-as-before z e = rw e (and-true (zoneOtherwiseSound z))
+sound-kept z e = rw e (and-true (zoneOtherwiseSound z))
 
 -- in range is each figure in its own, and the rule
 pub in-range-parts : (range : ℕ) (f : Figures) → inRange range f ≡ true → (eachInRange range f ≡ true) × (opens f ≡ true)
@@ -80,7 +79,7 @@ unfolding zoneSound
 sound-zone-parts z e = both (zoneOtherwiseSound z) (windowOpens z) e
 
 pub sound-zone : (z : Zone) → zoneOtherwiseSound z ≡ true → windowOpens z ≡ true → zoneSound z ≡ true
-sound-zone z s w = sound-as-before z w ∙ s
+sound-zone z s w = sound-kept z w ∙ s
 
 -- ---- with the rule
 
@@ -92,10 +91,10 @@ fits z p s =
       address = k .address;
       range = k .range;
       actual = k .actual;
-      ahue = range-as-before (z .range) (figuresOf z Ahue) (parts .1) ∙ k .ahue;
-      hzbg = range-as-before (z .range) (figuresOf z Hzbg) refl ∙ k .hzbg;
-      rrue = range-as-before (z .range) (figuresOf z Rrue) refl ∙ k .rrue;
-      solw = range-as-before (z .range) (figuresOf z Solw) refl ∙ k .solw;
+      ahue = range-kept (z .range) (figuresOf z Ahue) (parts .1) ∙ k .ahue;
+      hzbg = range-kept (z .range) (figuresOf z Hzbg) refl ∙ k .hzbg;
+      rrue = range-kept (z .range) (figuresOf z Rrue) refl ∙ k .rrue;
+      solw = range-kept (z .range) (figuresOf z Solw) refl ∙ k .solw;
     }
 
 pub fitting : (z : Zone) → z .present ≡ true → Fit z → zoneSound z ≡ true

@@ -1,4 +1,4 @@
--- The figures of a group: a form of the table with a number for each of its columns.
+-- The figures of a group: a form of the table with a number for each of its columns; when they are in range.
 use Prim.Native.Nat.{ℕ}
 use mathlib.Core.Bool.{Bool, true, _&&_}
 use mathlib.Core.List.{List, [], _∷_}
@@ -66,7 +66,7 @@ opens (HzbgLimit f) = true
 opens (RrueReference f) = true
 opens (SolwSetpoint f) = true
 
--- In range are figures that lie each in its own range, if the row's rule is kept. Document 01's "In AHUE each figure is judged by its own range only" is replaced by Req 06
+-- Figures are in range if each lies in its own and the row's rule is kept. Document 01's "In AHUE each figure is judged by its own range only" is replaced by Req 06
 unfoldable pub inRange : ℕ → Figures → Bool
 inRange range figures = eachInRange range figures && opens figures
 

@@ -2,15 +2,16 @@
 use Prim.Native.Nat.{ℕ, _≤_}
 use mathlib.Core.Path.{_≡_}
 use mathlib.Core.Logic.{_↔_}
-use mathlib.Core.Bool.{true, false}
+use mathlib.Core.Bool.{false}
 use Rattle.zone.specs.declared.figures.Group.{Group}
 use Rattle.zone.specs.declared.figures.Figures.{Figures}
+use Rattle.zone.specs.declared.figures.Figures.the-variants.{AhueWindow}
 use Rattle.zone.specs.declared.figures.WindowFigures.{WindowFigures}
 use Rattle.zone.specs.declared.status.Status.{Status}
 use Rattle.zone.specs.declared.zones.Watch.the-variants.{Window}
 use Rattle.zone.specs.declared.zones.Zone.{Zone}
 use Rattle.zone.specs.Figures.{groupOf, eachInRange, opens, inRange}
-use Rattle.zone.specs.Zones.{figuresOf, zoneOtherwiseSound, windowOpens, zoneSound}
+use Rattle.zone.specs.Zones.{figuresOf, zoneOtherwiseSound, zoneSound}
 
 -- the zone stays present, or absent, with its address and its temperature range
 pub record SameHead (before after : Zone) : Type 0 where
@@ -31,18 +32,18 @@ pub record SetsStatus (before : Zone) (status : Status) (after : Zone) : Type 0 
   pub reported : after .status ≡ status
   pub groups : (group : Group) → figuresOf after group ≡ figuresOf before group
 
--- a zone with "a window with begin not below end" (document 02, Req 06)
+-- zone z has that window, and it is "a window with begin not below end" (document 02, Req 06)
 pub record Shut (z : Zone) (window : WindowFigures) : Type 0 where
   pub has : z .watch ≡ Window window
   pub not-below : window .end ≤ window .begin
 
--- a zone breaks the rule exactly where it has one. `rule-broken`, in proofs/Mended.antt
+-- figures break the rule exactly where they are such a window. `rule-broken`, in proofs/Mended.antt
 abbrev pub RuleBroken : Type 0
-RuleBroken = (z : Zone) → (windowOpens z ≡ false) ↔ ((window : WindowFigures) × Shut z window)
+RuleBroken = (figures : Figures) → (opens figures ≡ false) ↔ ((window : WindowFigures) × (figures ≡ AhueWindow window) × (window .end ≤ window .begin))
 
--- and what keeps the rule is judged as before: by document 01's tests alone. `range-as-before` and `sound-as-before`, in proofs/Sound.antt
+-- and what is no such window is judged as before: by document 01's tests alone. `range-as-before` and `sound-as-before`, in proofs/Mended.antt
 abbrev pub RangeAsBefore : Type 0
-RangeAsBefore = (range : ℕ) (figures : Figures) → opens figures ≡ true → inRange range figures ≡ eachInRange range figures
+RangeAsBefore = (range : ℕ) (figures : Figures) → ((window : WindowFigures) → figures ≡ AhueWindow window → window .end ≤ window .begin → ⊥) → inRange range figures ≡ eachInRange range figures
 
 abbrev pub SoundAsBefore : Type 0
-SoundAsBefore = (z : Zone) → windowOpens z ≡ true → zoneSound z ≡ zoneOtherwiseSound z
+SoundAsBefore = (z : Zone) → ((window : WindowFigures) → Shut z window → ⊥) → zoneSound z ≡ zoneOtherwiseSound z

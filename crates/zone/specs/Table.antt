@@ -46,7 +46,7 @@ pub data Form : Type 0 where
 abbrev pub layout : Form → Layout
 -- a, lower, upper, time
 layout deadline = record { group = Ahue; columns = column flag 0 1 ∷ column limit 5 99 ∷ column limit 5 99 ∷ column time 0 999 ∷ [] }
--- a, lower, upper, begin, end
+-- a, lower, upper, begin, end; and begin below end (`opens`, in Figures.antt)
 layout window = record { group = Ahue; columns = column flag 0 1 ∷ column limit 5 99 ∷ column limit 5 99 ∷ column time 0 998 ∷ column time 1 999 ∷ [] }
 -- time
 layout hzbg = record { group = Hzbg; columns = column time 0 999 ∷ [] }

@@ -1,4 +1,4 @@
--- The zone: what a new and an absent one hold, when one is sound, what is read from it and written to it.
+-- The zone: what a new and an absent one hold, when one is sound, what is read from it and written to it, and how a window is mended.
 use Prim.Native.Nat.{ℕ, _+_}
 use mathlib.Core.Bool.{Bool, true, false, cond, _&&_, _||_}
 use lib.Dec.{leb, eqb}
@@ -71,12 +71,12 @@ rangeKnown range = eqb range 300 || eqb range 500
 abbrev pub actualInRange : ℕ → Bool
 actualInRange actual = leb actual 999
 
-abbrev pub groupsInRange : Zone → Bool
-groupsInRange z = every (λ group. eachInRange (z .range) (figuresOf z group)) everyGroup
+abbrev pub groupsEachInRange : Zone → Bool
+groupsEachInRange z = every (λ group. eachInRange (z .range) (figuresOf z group)) everyGroup
 
 -- "every figure of every present zone lies in its range", each judged by its own; of the state there is nothing to test, since the type has just the four
-abbrev pub presentSound : Zone → Bool
-presentSound z = addressInRange (z .address) && rangeKnown (z .range) && actualInRange (z .status .actual) && groupsInRange z
+abbrev pub presentOtherwiseSound : Zone → Bool
+presentOtherwiseSound z = addressInRange (z .address) && rangeKnown (z .range) && actualInRange (z .status .actual) && groupsEachInRange z
 
 abbrev pub isOff : State → Bool
 isOff Off = true
@@ -97,9 +97,9 @@ holdsNothing z = isZero (z .address) && isZero (z .range) && isZero (z .status .
 
 -- what document 01 asks of each zone of a sound record: soundness without the rule that a window opens before it closes
 unfoldable pub zoneOtherwiseSound : Zone → Bool
-zoneOtherwiseSound z = cond (z .present) (presentSound z) (holdsNothing z)
+zoneOtherwiseSound z = cond (z .present) (presentOtherwiseSound z) (holdsNothing z)
 
--- that rule, of the zone's watch. An absent zone, whose watch is a deadline, keeps it anyway
+-- that rule, of the zone's watch. An absent zone that holds nothing has a deadline, and keeps it
 abbrev pub windowOpens : Zone → Bool
 windowOpens z = opens (figuresOf z Ahue)
 
@@ -158,7 +158,7 @@ openedWatch (Window f) = Window (opened f)
 abbrev pub mended : Zone → Zone
 mended z = cond (windowOpens z) z (withWatch z (openedWatch (z .watch)))
 
--- the end of a zone's window; a zone without one has none, told as 0
+-- the end of a window; 0 of a deadline, which is never told
 abbrev pub endOf : Watch → ℕ
 endOf (Deadline f) = 0
 endOf (Window f) = f .end

@@ -174,7 +174,7 @@ impl Figures {
         }
     }
 
-    // Both: what a write has to be.
+    // Each figure lies in its own range, and the row's rule is kept.
     pub fn in_range(self, range: u32) -> bool
         ensures { λ r. ⌜ r ≡ inRange range self ⌝ }
     {

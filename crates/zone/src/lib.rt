@@ -1,8 +1,8 @@
 // What a zone is and what can be said to it.
 //
 // A zone goes in by value and comes back by value; no function here knows of another zone. What is
-// right is written in specs/: Table.antt has document 01's table of command groups, Figures.antt what
-// follows from it for a group's figures, Zones.antt the zone itself.
+// right is written in specs/: Table.antt has document 01's table of command groups, Figures.antt when a
+// group's figures are in range, Zones.antt the zone itself.
 mod figures;
 mod status;
 mod zones;

@@ -1,4 +1,4 @@
-// The zone: what it keeps, when it is sound, what is read from it and written to it.
+// The zone: what it keeps, when it is sound, what is read from it and written to it, how it is mended.
 use crate::figures::DeadlineFigures;
 use crate::figures::Figures;
 use crate::figures::Group;
@@ -13,7 +13,7 @@ ghost use mathlib.Core.Path.{_≡_};
 ghost use mathlib.Core.Bool.{true};
 ghost use Prim.Native.Nat.{_<_};
 ghost use Rattle.zone.specs.Inner.{beginOf};
-ghost use Rattle.zone.specs.Zones.{watchFigures, figuresOf, newZone, emptyZone, addressInRange, rangeKnown, groupsInRange, presentSound, isDeadline, groupsZero, holdsNothing, zoneOtherwiseSound, windowOpens, holds, withStatus, withWatch, withSettings, withFigures, openedWatch, mended, endOf};
+ghost use Rattle.zone.specs.Zones.{watchFigures, figuresOf, newZone, emptyZone, addressInRange, rangeKnown, groupsEachInRange, presentOtherwiseSound, isDeadline, groupsZero, holdsNothing, zoneOtherwiseSound, windowOpens, zoneSound, holds, withStatus, withWatch, withSettings, withFigures, openedWatch, mended, endOf};
 
 // The heating watch: a deadline or a window, each with its own figures.
 pub enum Watch {
@@ -56,7 +56,7 @@ impl Watch {
         }
     }
 
-    // A window ends one after its begin; a deadline stays as it is.
+    // The watch with a window's end set to its begin + 1; a deadline stays as it is.
     fn opened(self) -> Watch
         requires { ⌜ beginOf self < 999 ⌝ }
         ensures { λ r. ⌜ r ≡ openedWatch self ⌝ }
@@ -240,7 +240,7 @@ impl Zone {
         self
     }
 
-    // A window opens before it closes.
+    // The zone's window, if it has one, opens before it closes.
     pub fn window_opens(self) -> bool
         ensures { λ r. ⌜ r ≡ windowOpens self ⌝ }
     {
@@ -267,30 +267,37 @@ impl Zone {
         self.with_watch(watch.opened())
     }
 
-    // Soundness without that rule: a present zone has every figure in its own range, and an absent
-    // one is empty.
+    // What a sound record asks of a zone.
+    pub fn is_sound(self) -> bool
+        ensures { λ r. ⌜ r ≡ zoneSound self ⌝ }
+    {
+        self.is_otherwise_sound() & self.window_opens()
+    }
+
+    // Soundness without the rule for windows: a present zone has every figure in its own range, and
+    // an absent one is empty.
     pub fn is_otherwise_sound(self) -> bool
         ensures { λ r. ⌜ r ≡ zoneOtherwiseSound self ⌝ }
     {
         if self.present {
-            self.figures_sound()
+            self.present_otherwise_sound()
         } else {
             self.is_empty()
         }
     }
 
-    fn figures_sound(self) -> bool
-        ensures { λ r. ⌜ r ≡ presentSound self ⌝ }
+    fn present_otherwise_sound(self) -> bool
+        ensures { λ r. ⌜ r ≡ presentOtherwiseSound self ⌝ }
     {
         let status = self.status;
         address_in_range(self.address)
             & range_known(self.range)
             & actual_in_range(status.actual)
-            & self.groups_in_range()
+            & self.groups_each_in_range()
     }
 
-    fn groups_in_range(self) -> bool
-        ensures { λ r. ⌜ r ≡ groupsInRange self ⌝ }
+    fn groups_each_in_range(self) -> bool
+        ensures { λ r. ⌜ r ≡ groupsEachInRange self ⌝ }
     {
         let range = self.range;
         self.figures(Group::Ahue).each_in_range(range)

@@ -1,4 +1,4 @@
--- Of a syntax error it is what the line expects there, and of a figure out of range its range.
+-- Of a syntax error it is what the line expects there, and of figures out of range the range that was missed.
 use mathlib.Core.Path.{sym, ap}
 use native.Mathlib.Omega.{arith}
 use borrow.Author.Tests.{eq-eqb, ne-eqb}

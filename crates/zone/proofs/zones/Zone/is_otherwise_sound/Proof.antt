@@ -6,7 +6,7 @@ use Rattle.zone.proofs.zones.Zone.is_otherwise_sound.Tie as tie
 
 returns : tie.Need-returns
 unfolding zoneOtherwiseSound
-returns c = rw (c .before .if1 .taken) (c .figures-sound .ensures)
+returns c = rw (c .before .if1 .taken) (c .present-otherwise-sound .ensures)
 
 returns-2 : tie.Need-returns-2
 unfolding zoneOtherwiseSound

@@ -4,8 +4,8 @@ use Rattle.zone.specs.Figures.{eachInRange}
 use Rattle.zone.specs.Zones.{figuresOf}
 use Rattle.zone.proofs.Groups.{each-group}
 use borrow.Author.Needs.{needs}
-use Rattle.zone.proofs.zones.Zone.groups_in_range.Statement.{statement}
-use Rattle.zone.proofs.zones.Zone.groups_in_range.Tie as tie
+use Rattle.zone.proofs.zones.Zone.groups_each_in_range.Statement.{statement}
+use Rattle.zone.proofs.zones.Zone.groups_each_in_range.Tie as tie
 
 returns : tie.Need-returns
 returns c =
@@ -24,8 +24,8 @@ returns c =
     (c3 .each-in-range3 .ensures ∙ ap (eachInRange (z .range)) (c3 .before .figures3 .ensures))
     (c .each-in-range4 .ensures ∙ ap (eachInRange (z .range)) (c .before .figures4 .ensures))
 
-pub groups-in-range-spec : {M : Type 1} → statement M
-groups-in-range-spec =
+pub groups-each-in-range-spec : {M : Type 1} → statement M
+groups-each-in-range-spec =
     tie.close
     (tie.spec
     (λ c κs. search needs)
