@@ -15,21 +15,22 @@ use Rattle.card.specs.Calls.{oldEndsFrom, toldAs}
 
 -- ---- the old ends
 
+-- the sixteen entries before any is told
 abbrev nothing : OldEnd
 nothing = record { zone = 0; end = 0 }
 
-abbrev pub places : List OldEnd
-places = replicate 16 nothing
+abbrev pub noEnds : List OldEnd
+noEnds = replicate 16 nothing
 
 -- before the turn of zone i, `count` are stored; those that are left, stored behind them, make the whole
 pub record Gathers (zs : List Zone) (ends : List OldEnd) (count i : ℕ) : Type 0 where
   pub below : i ≤ 16
   pub counted : count ≤ i
   pub room : length ends ≡ 16
-  pub whole : sets places 0 (oldEndsFrom 0 zs) ≡ sets ends count (oldEndsFrom i (drop i zs))
+  pub whole : sets noEnds 0 (oldEndsFrom 0 zs) ≡ sets ends count (oldEndsFrom i (drop i zs))
   pub total : count + length (oldEndsFrom i (drop i zs)) ≡ length (oldEndsFrom 0 zs)
 
-pub gathers-start : (zs : List Zone) → Gathers zs places 0 0
+pub gathers-start : (zs : List Zone) → Gathers zs noEnds 0 0
 gathers-start zs = record { below = omega arith; counted = omega arith; room = refl; whole = refl; total = omega arith }
 
 -- what is left before the turn of zone i, by its window
@@ -67,6 +68,7 @@ module _ (zs : List Zone) (ends : List OldEnd) (count i : ℕ) (d : Zone) (h : i
         total = omega (arith, g .total, ap length step);
       }
 
+-- the entries behind those that are told
 drop-replicate : (n m : ℕ) (x : OldEnd) → drop n (replicate m x) ≡ replicate (m - n) x
 drop-replicate zero m x = ap (λ (k : ℕ). replicate k x) (let e : m ≡ m - 0 = omega arith in e)
 drop-replicate (suc n) zero x = ap (λ (k : ℕ). replicate k x) (let e : 0 ≡ 0 - suc n = omega arith in e)
@@ -81,23 +83,23 @@ gathers-end zs ends count i h g =
     let none = none-left zs i h in
     let told = oldEndsFrom 0 zs in
     let n : count ≡ length told = omega (arith, g .total, ap length none) in
-    let stored : ends ≡ sets places 0 told = sym (g .whole ∙ ap (sets ends count) none) in
-    let laid : sets places 0 told ≡ told ++ drop (0 + length told) places = sets-eq told places 0 (omega (arith, g .counted, g .below)) in
-    let zeros : drop (0 + length told) places ≡ replicate (16 - length told) nothing = rw (zero-add (length told)) (drop-replicate (length told) 16 nothing) in
+    let stored : ends ≡ sets noEnds 0 told = sym (g .whole ∙ ap (sets ends count) none) in
+    let laid : sets noEnds 0 told ≡ told ++ drop (0 + length told) noEnds = sets-eq told noEnds 0 (omega (arith, g .counted, g .below)) in
+    let zeros : drop (0 + length told) noEnds ≡ replicate (16 - length told) nothing = rw (zero-add (length told)) (drop-replicate (length told) 16 nothing) in
     rw (n, stored, laid, zeros)
 
 -- ---- the zones
 
 -- before the turn of zone i, those before it are mended; they and those that are left, mended, make the whole
-pub record Mends (zs after : List Zone) (i : ℕ) : Type 0 where
+pub record MendsTo (zs after : List Zone) (i : ℕ) : Type 0 where
   pub below : i ≤ 16
   pub room : length after ≡ 16
   pub whole : map mended zs ≡ take i after ++ map mended (drop i zs)
 
-pub mends-start : (zs : List Zone) → length zs ≡ 16 → Mends zs zs 0
+pub mends-start : (zs : List Zone) → length zs ≡ 16 → MendsTo zs zs 0
 mends-start zs h = record { below = omega arith; room = h; whole = refl }
 
-pub mends-turn : (zs after : List Zone) (i : ℕ) (d : Zone) → i < length zs → i < 16 → Mends zs after i → Mends zs (set after i (mended (getD zs i d))) (i + 1)
+pub mends-turn : (zs after : List Zone) (i : ℕ) (d : Zone) → i < length zs → i < 16 → MendsTo zs after i → MendsTo zs (set after i (mended (getD zs i d))) (i + 1)
 mends-turn zs after i d h l g =
     let x = mended (getD zs i d) in
     record {
@@ -111,7 +113,7 @@ mends-turn zs after i d h l g =
           ∙ ap (λ (k : ℕ). take k (set after i x) ++ map mended (drop k zs)) (sym (add-one i));
     }
 
-pub mends-end : (zs after : List Zone) (i : ℕ) → length zs ≤ i → 16 ≤ i → Mends zs after i → after ≡ map mended zs
+pub mends-end : (zs after : List Zone) (i : ℕ) → length zs ≤ i → 16 ≤ i → MendsTo zs after i → after ≡ map mended zs
 mends-end zs after i h k g =
     sym
     (g .whole

@@ -15,7 +15,7 @@ use Rattle.zone.specs.declared.zones.Zone.{Zone}
 use Rattle.zone.specs.Lists.{every, isZero}
 use Rattle.zone.specs.Zones.{emptyZone, zoneOtherwiseSound, windowOpens, opened, mended, endOf}
 use Rattle.zone.specs.Rules.{SetsFigures, Shut}
-use Rattle.zone.proofs.Tests.{never, both}
+use Rattle.zone.proofs.Tests.{never, both, not-so}
 use Rattle.zone.proofs.Sound.{empty-sound, sound-zone-parts}
 use Rattle.zone.proofs.Mended.{window-present, by-window, shut-breaks, mended-same, mended-sets, mended-present, mended-address, mended-opens, mended-otherwise}
 use Rattle.card.specs.declared.records.Record.{Record}
@@ -32,11 +32,12 @@ use Rattle.card.proofs.Storing.{every-at, every-where, otherwise-parts,
 pub repair-order : (r : Record) → numbersIn (repairRows r) ≡ repairOrder
 repair-order r = refl
 
+-- 2 exactly where there is another fault
 pub repair-exactly : (r : Record) → ExactlyWhen (repairRows r) (repairOf r .result .number)
 unfolding repairOf
 repair-exactly r = exactly (repairRows r) refl
 
--- 2 exactly where there is another fault
+-- so a repair is done exactly where there is none
 pub repair-done : (r : Record) → repairOf r .result .number ≡ 0 → otherwiseSound r ≡ true
 repair-done r e = not-false (otherwiseSound r) (repair-exactly r .done .0 e 0)
 
@@ -66,11 +67,7 @@ repair-not-done r u = by-fault (otherwiseSound r) refl
 
 -- what is not otherwise sound is not sound
 pub not-otherwise : (r : Record) → otherwiseSound r ≡ false → sound r ≡ false
-not-otherwise r e = by-test (sound r) refl
-  where
-    by-test : (t : Bool) → sound r ≡ t → t ≡ false
-    by-test true s = never (sym e ∙ sound-both r s .0)
-    by-test false s = refl
+not-otherwise r e = not-so (sound r) (λ s. never (sym e ∙ sound-both r s .0))
 
 -- ---- zone by zone
 
@@ -90,11 +87,7 @@ shut-present r n f e s =
 
 -- a record with such a window is not sound
 pub shut-unsound : (r : Record) (n : ℕ) (f : WindowFigures) → Shut (zoneAt r n) f → sound r ≡ false
-shut-unsound r n f s = by-test (sound r) refl
-  where
-    by-test : (t : Bool) → sound r ≡ t → t ≡ false
-    by-test true e = never (sym (shut-breaks (zoneAt r n) f s) ∙ every-at windowOpens (r .zones) n emptyZone refl (sound-both r e .1))
-    by-test false e = refl
+shut-unsound r n f s = not-so (sound r) (λ e. never (sym (shut-breaks (zoneAt r n) f s) ∙ every-at windowOpens (r .zones) n emptyZone refl (sound-both r e .1)))
 
 -- ---- what is told
 

@@ -13,7 +13,7 @@ use Rattle.zone.specs.Zones.{emptyZone, zoneOtherwiseSound, windowOpens, zoneSo
 use Rattle.zone.proofs.Tests.{never, and-l, and-r, both, neither, eqb-sym, or-true}
 use Rattle.zone.proofs.Sound.{empty-sound, sound-zone, sound-zone-parts}
 use Rattle.card.specs.declared.records.Record.{Record}
-use Rattle.card.specs.Records.{zoneAt, withZone, heldIn, differ, otherwiseSound, sound}
+use Rattle.card.specs.Records.{zoneAt, withZone, heldIn, differ, soundBy, otherwiseSound, sound}
 
 -- ---- the scans after one zone is set
 
@@ -101,37 +101,36 @@ freed (x ∷ xs) (suc n) s p =
 
 -- ---- records
 
--- the parts of a record's soundness
-pub record Sound (r : Record) : Type 0 where
+-- the parts of a record's soundness, by what is asked of each zone
+pub record SoundBy (zone : Zone → Bool) (r : Record) : Type 0 where
   pub sixteen : length (r .zones) ≡ 16
-  pub zones : every zoneSound (r .zones) ≡ true
+  pub zones : every zone (r .zones) ≡ true
   pub addresses : differ (r .zones) ≡ true
 
--- and of soundness without the rule for windows
-pub record OtherwiseSound (r : Record) : Type 0 where
-  pub sixteen : length (r .zones) ≡ 16
-  pub zones : every zoneOtherwiseSound (r .zones) ≡ true
-  pub addresses : differ (r .zones) ≡ true
-
-pub otherwise-parts : (r : Record) → otherwiseSound r ≡ true → OtherwiseSound r
-unfolding otherwiseSound
-otherwise-parts r s =
+parts : (zone : Zone → Bool) (r : Record) → soundBy zone r ≡ true → SoundBy zone r
+parts zone r s =
     let l : eqb (length (r .zones)) 16 ≡ true = search and-l in
     record { sixteen = eqb-true (length (r .zones)) 16 l; zones = search (and-l, and-r); addresses = search (and-l, and-r) }
 
-pub otherwise-whole : (r : Record) → OtherwiseSound r → otherwiseSound r ≡ true
+whole : (zone : Zone → Bool) (r : Record) → SoundBy zone r → soundBy zone r ≡ true
+whole zone r k = rw (eq-eqb (length (r .zones)) 16 (k .sixteen), k .zones, k .addresses)
+
+pub sound-parts : (r : Record) → sound r ≡ true → SoundBy zoneSound r
+unfolding sound
+sound-parts r s = parts zoneSound r s
+
+sound-whole : (r : Record) → SoundBy zoneSound r → sound r ≡ true
+unfolding sound
+sound-whole r k = whole zoneSound r k
+
+-- without the rule for windows
+pub otherwise-parts : (r : Record) → otherwiseSound r ≡ true → SoundBy zoneOtherwiseSound r
 unfolding otherwiseSound
-otherwise-whole r k = rw (eq-eqb (length (r .zones)) 16 (k .sixteen), k .zones, k .addresses)
+otherwise-parts r s = parts zoneOtherwiseSound r s
 
-pub sound-parts : (r : Record) → sound r ≡ true → Sound r
-unfolding sound
-sound-parts r s =
-    let l : eqb (length (r .zones)) 16 ≡ true = search and-l in
-    record { sixteen = eqb-true (length (r .zones)) 16 l; zones = search (and-l, and-r); addresses = search (and-l, and-r) }
-
-sound-whole : (r : Record) → Sound r → sound r ≡ true
-unfolding sound
-sound-whole r k = rw (eq-eqb (length (r .zones)) 16 (k .sixteen), k .zones, k .addresses)
+pub otherwise-whole : (r : Record) → SoundBy zoneOtherwiseSound r → otherwiseSound r ≡ true
+unfolding otherwiseSound
+otherwise-whole r k = whole zoneOtherwiseSound r k
 
 -- sound is otherwise sound, and every zone's rule
 every-sound : (zs : List Zone) → every zoneOtherwiseSound zs ≡ true → every windowOpens zs ≡ true → every zoneSound zs ≡ true

@@ -6,12 +6,13 @@ use mathlib.Core.Bool.{Bool, true, false, cond, _&&_, _||_}
 use mathlib.Core.List.{List, [], _∷_, _++_, append-assoc, append-nil}
 use native.Mathlib.Omega.{arith}
 use lib.ListN.{length, drop, take, getD, length-drop, length-append, drop-of-length-le}
-use lib.Seq.{drop-cons, drop-at, getD-append-seam}
+use lib.Seq.{drop-cons, drop-append-seam, drop-drop, getD-drop, getD-append-seam}
 use lib.Dec.{ltb, eqb}
 use borrow.Author.Tests.{ltb-true, ltb-false, le-ltb, eq-eqb, ne-eqb, eqb-true, eqb-false}
 use Rattle.zone.specs.declared.figures.Group.{Group}
 use Rattle.zone.specs.declared.figures.Group.the-variants.{Ahue, Hzbg, Rrue, Solw}
 use Rattle.zone.specs.declared.figures.Figures.{Figures}
+use Rattle.zone.specs.declared.figures.WindowFigures.{WindowFigures}
 use Rattle.zone.specs.declared.figures.Figures.the-variants.{AhueDeadline, AhueWindow, HzbgLimit, RrueReference, SolwSetpoint}
 use Rattle.zone.specs.declared.figures.Command.the-variants.{Read, Write}
 use Rattle.zone.specs.Table.{Kind, flag, limit, time, digits, setpoint, Form, deadline, window, hzbg, rrue, solw, layout, formsOf, name}
@@ -254,41 +255,35 @@ write-space range figures n h = space-before range (S ∷ name (groupOf figures)
     by-group Rrue k = k
     by-group Solw k = k
 
--- the last figure of a row has a space before it too
-last-space : (pre : List ℕ) (es : List Entry) (e : Entry) → getD (pre ++ inOrder textRoad (es ++ (e ∷ []))) (length pre + total (λ e. textRoad .width (e .column .kind)) es) 0 ≡ 32
-last-space pre [] e =
+-- the last figure of a row ends the line
+last-figure : (pre : List ℕ) (es : List Entry) (e : Entry) → drop (length pre + total (λ e. textRoad .width (e .column .kind)) es) (pre ++ inOrder textRoad (es ++ (e ∷ []))) ≡ entryBytes textRoad e
+last-figure pre [] e =
     let m : length pre + 0 ≡ length pre = omega arith in
-    rw m (getD-append-seam pre 32 (digitsFor (digits (e .column .kind)) (e .number) ++ []) 0)
-last-space pre (x ∷ es) e =
+    rw (m, append-nil (entryBytes textRoad e)) (drop-append-seam pre (entryBytes textRoad e))
+last-figure pre (x ∷ es) e =
     let l : length (pre ++ entryBytes textRoad x) ≡ length pre + textRoad .width (x .column .kind) = rw (length-append, digits-length (digits (x .column .kind)) (x .number)) (omega arith) in
     let m : length pre + (textRoad .width (x .column .kind) + total (λ e. textRoad .width (e .column .kind)) es) ≡ length (pre ++ entryBytes textRoad x) + total (λ e. textRoad .width (e .column .kind)) es = omega (arith, l) in
-    rw (m, ← append-assoc pre (entryBytes textRoad x) (inOrder textRoad (es ++ (e ∷ [])))) (last-space (pre ++ entryBytes textRoad x) es e)
+    rw (m, ← append-assoc pre (entryBytes textRoad x) (inOrder textRoad (es ++ (e ∷ [])))) (last-figure (pre ++ entryBytes textRoad x) es e)
 
--- and behind it its digits, to the line's end
-last-digits : (pre : List ℕ) (es : List Entry) (e : Entry)
-    → drop (length pre + total (λ e. textRoad .width (e .column .kind)) es + 1) (pre ++ inOrder textRoad (es ++ (e ∷ []))) ≡ digitsFor (digits (e .column .kind)) (e .number)
-last-digits pre [] e =
-    let n : length (pre ++ (32 ∷ [])) ≡ length pre + 0 + 1 = rw length-append (omega arith) in
-    rw (append-nil (digitsFor (digits (e .column .kind)) (e .number)), ← append-assoc pre (32 ∷ []) (digitsFor (digits (e .column .kind)) (e .number))) (drop-at (pre ++ (32 ∷ [])) (digitsFor (digits (e .column .kind)) (e .number)) (length pre + 0 + 1) n)
-last-digits pre (x ∷ es) e =
-    let l : length (pre ++ entryBytes textRoad x) ≡ length pre + textRoad .width (x .column .kind) = rw (length-append, digits-length (digits (x .column .kind)) (x .number)) (omega arith) in
-    let m : length pre + (textRoad .width (x .column .kind) + total (λ e. textRoad .width (e .column .kind)) es) ≡ length (pre ++ entryBytes textRoad x) + total (λ e. textRoad .width (e .column .kind)) es = omega (arith, l) in
-    rw (m, ← append-assoc pre (entryBytes textRoad x) (inOrder textRoad (es ++ (e ∷ [])))) (last-digits (pre ++ entryBytes textRoad x) es e)
+-- so a window's end does, behind its space
+window-end : (f : WindowFigures) → drop 19 (lineOf (Write (AhueWindow f))) ≡ 32 ∷ digitsFor 3 (f .end)
+unfolding lineOf
+window-end f = last-figure (S ∷ name Ahue) (take 4 (entriesOf (AhueWindow f))) (getD (entriesOf (AhueWindow f)) 4 (record { column = setpoint; number = 0 }))
 
 pub end-placed : EndPlaced
-unfolding lineOf outOf
+unfolding outOf
 end-placed range f e h = record {
   place = rw (e, le-ltb (f .begin) (f .end) h);
-  its-digits = last-digits (S ∷ name Ahue) (take 4 (entriesOf (AhueWindow f))) (getD (entriesOf (AhueWindow f)) 4 (record { column = setpoint; number = 0 }));
+  its-digits = sym (drop-drop 1 19 (lineOf (Write (AhueWindow f)))) ∙ ap (drop 1) (window-end f);
 }
 
 -- where a row breaks its rule it is a window, whose end is the last figure
 end-within : (figures : Figures) → opens figures ≡ false → BehindSpace (lineOf (Write figures)) endOffset
-unfolding lineOf
-end-within (AhueWindow f) e = record { behind-letters = omega arith; within-line = omega (arith, write-length (AhueWindow f)); space-before = space }
-  where
-    space : getD (lineOf (Write (AhueWindow f))) 19 0 ≡ 32
-    space = last-space (S ∷ name Ahue) (take 4 (entriesOf (AhueWindow f))) (getD (entriesOf (AhueWindow f)) 4 (record { column = setpoint; number = 0 }))
+end-within (AhueWindow f) e = record {
+  behind-letters = omega arith;
+  within-line = omega (arith, write-length (AhueWindow f));
+  space-before = sym (getD-drop 19 (lineOf (Write (AhueWindow f))) 0 0) ∙ ap (λ (k : List ℕ). getD k 0 0) (window-end f);
+}
 end-within (AhueDeadline f) e = never (sym e)
 end-within (HzbgLimit f) e = never (sym e)
 end-within (RrueReference f) e = never (sym e)

@@ -5,6 +5,7 @@ use mathlib.Core.Bool.{Bool, true, false}
 use native.Mathlib.Omega.{arith}
 use lib.Dec.{leb, ltb, leb·zero}
 use borrow.Author.Tests.{leb-true, le-leb, lt-ltb, le-ltb, ltb-false}
+use Rattle.zone.specs.declared.figures.Figures.{Figures}
 use Rattle.zone.specs.declared.figures.Figures.the-variants.{AhueDeadline, AhueWindow, HzbgLimit, RrueReference, SolwSetpoint}
 use Rattle.zone.specs.declared.figures.WindowFigures.{WindowFigures}
 use Rattle.zone.specs.declared.zones.Watch.{Watch}
@@ -76,12 +77,15 @@ shut-breaks z f s = ap (λ (x : Watch). opens (watchFigures x)) (s .has) ∙ le-
 pub not-shut : (z : Zone) (f : WindowFigures) → windowOpens z ≡ true → Shut z f → ⊥
 not-shut z f w s = never (sym (shut-breaks z f s) ∙ w)
 
+broken : (figures : Figures) → (window : WindowFigures) × (figures ≡ AhueWindow window) × (window .end ≤ window .begin) → opens figures ≡ false
+broken figures w = ap opens (w .1) ∙ le-ltb (w .0 .begin) (w .0 .end) (w .2)
+
 pub rule-broken : RuleBroken
-rule-broken (AhueWindow f) = ((λ e. (f, refl, ltb-false (f .begin) (f .end) e)), (λ p. ap opens (p .1) ∙ le-ltb (p .0 .begin) (p .0 .end) (p .2)))
-rule-broken (AhueDeadline f) = ((λ e. never (sym e)), (λ p. ap opens (p .1) ∙ le-ltb (p .0 .begin) (p .0 .end) (p .2)))
-rule-broken (HzbgLimit f) = ((λ e. never (sym e)), (λ p. ap opens (p .1) ∙ le-ltb (p .0 .begin) (p .0 .end) (p .2)))
-rule-broken (RrueReference f) = ((λ e. never (sym e)), (λ p. ap opens (p .1) ∙ le-ltb (p .0 .begin) (p .0 .end) (p .2)))
-rule-broken (SolwSetpoint f) = ((λ e. never (sym e)), (λ p. ap opens (p .1) ∙ le-ltb (p .0 .begin) (p .0 .end) (p .2)))
+rule-broken (AhueWindow f) = ((λ e. (f, refl, ltb-false (f .begin) (f .end) e)), broken (AhueWindow f))
+rule-broken (AhueDeadline f) = ((λ e. never (sym e)), broken (AhueDeadline f))
+rule-broken (HzbgLimit f) = ((λ e. never (sym e)), broken (HzbgLimit f))
+rule-broken (RrueReference f) = ((λ e. never (sym e)), broken (RrueReference f))
+rule-broken (SolwSetpoint f) = ((λ e. never (sym e)), broken (SolwSetpoint f))
 
 pub range-as-before : RangeAsBefore
 range-as-before range figures u = by-rule (opens figures) refl

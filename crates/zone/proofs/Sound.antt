@@ -1,7 +1,7 @@
 -- Which zones are sound: the new and the empty one, and a sound one after a write or a report in range. An absent one is the empty zone. Assumes nothing.
 use Prim.Native.Nat.{ℕ}
 use mathlib.Core.Path.{_≡_, refl, _∙_}
-use mathlib.Core.Bool.{true, false, and-true}
+use mathlib.Core.Bool.{Bool, true, false, and-true}
 use lib.Dec.{leb·zero}
 use borrow.Author.Tests.{eqb-true}
 use Rattle.zone.specs.declared.figures.Group.the-variants.{Ahue, Hzbg, Rrue, Solw}
@@ -19,25 +19,22 @@ use Rattle.zone.specs.Figures.{eachInRange, opens, inRange, allZero}
 use Rattle.zone.specs.Zones.{newZone, emptyZone, watchFigures, figuresOf, addressInRange, rangeKnown, actualInRange, isOff, isDeadline, groupsEachInRange, presentOtherwiseSound, groupsZero, holdsNothing, zoneOtherwiseSound, windowOpens, zoneSound, withStatus, withFigures}
 use Rattle.zone.proofs.Tests.{never, both, and-l, and-r}
 
--- the parts of a present zone's soundness, one by one
-pub record Fit (z : Zone) : Type 0 where
+-- the parts of a present zone's soundness, one by one, by how a group's figures are judged
+pub record FitBy (test : ℕ → Figures → Bool) (z : Zone) : Type 0 where
   pub address : addressInRange (z .address) ≡ true
   pub range : rangeKnown (z .range) ≡ true
   pub actual : actualInRange (z .status .actual) ≡ true
-  pub ahue : inRange (z .range) (figuresOf z Ahue) ≡ true
-  pub hzbg : inRange (z .range) (figuresOf z Hzbg) ≡ true
-  pub rrue : inRange (z .range) (figuresOf z Rrue) ≡ true
-  pub solw : inRange (z .range) (figuresOf z Solw) ≡ true
+  pub ahue : test (z .range) (figuresOf z Ahue) ≡ true
+  pub hzbg : test (z .range) (figuresOf z Hzbg) ≡ true
+  pub rrue : test (z .range) (figuresOf z Rrue) ≡ true
+  pub solw : test (z .range) (figuresOf z Solw) ≡ true
 
--- without the rule: each group's figures lie each in its own range
-pub record OtherwiseFit (z : Zone) : Type 0 where
-  pub address : addressInRange (z .address) ≡ true
-  pub range : rangeKnown (z .range) ≡ true
-  pub actual : actualInRange (z .status .actual) ≡ true
-  pub ahue : eachInRange (z .range) (figuresOf z Ahue) ≡ true
-  pub hzbg : eachInRange (z .range) (figuresOf z Hzbg) ≡ true
-  pub rrue : eachInRange (z .range) (figuresOf z Rrue) ≡ true
-  pub solw : eachInRange (z .range) (figuresOf z Solw) ≡ true
+abbrev pub Fit : Zone → Type 0
+Fit z = FitBy inRange z
+
+-- without the rule: each figure by its own range
+abbrev pub OtherwiseFit : Zone → Type 0
+OtherwiseFit z = FitBy eachInRange z
 
 pub otherwise-fits : (z : Zone) → z .present ≡ true → zoneOtherwiseSound z ≡ true → OtherwiseFit z
 unfolding zoneOtherwiseSound

@@ -19,6 +19,11 @@ and-l t u e = both t u e .0
 pub and-r : (t u : Bool) → (t && u) ≡ true → u ≡ true
 and-r t u e = both t u e .1
 
+-- what cannot be true is false
+pub not-so : (t : Bool) → (t ≡ true → ⊥) → t ≡ false
+not-so true u = absurd (u refl)
+not-so false u = refl
+
 pub and-false : (t : Bool) → (t && false) ≡ false
 and-false true = refl
 and-false false = refl

@@ -8,13 +8,13 @@ use Rattle.zone.specs.declared.zones.Zone.{Zone}
 use Rattle.zone.specs.Zones.{zoneOtherwiseSound}
 use Rattle.card.proofs.Scans.{length-mapped}
 use Rattle.card.proofs.Storing.{every-in}
-use Rattle.card.proofs.Mending.{Mends, mends-start, mends-turn, mends-end}
+use Rattle.card.proofs.Mending.{MendsTo, mends-start, mends-turn, mends-end}
 use borrow.Author.Needs.{needs}
 use Rattle.card.proofs.records.Record.all_mended.Statement.{statement}
 use Rattle.card.proofs.records.Record.all_mended.Tie as tie
 
 abbrev Inv-loop : tie.InvT-loop
-Inv-loop self after₀ i₀ after i = Mends (self .zones) (after .zones) i
+Inv-loop self after₀ i₀ after i = MendsTo (self .zones) (after .zones) i
 
 abbrev μ-loop : tie.MeasureT-loop
 μ-loop self after₀ i₀ after i = 16 - i
