@@ -82,21 +82,22 @@ found-nowhere r address = (none-holds r address, λ h. by-found (findOf r addres
     by-found (At k) e h = never (sym (h k) ∙ is-first r address k e .here)
     by-found Nowhere e h = e
 
+-- a present zone of a sound record is one of the sixteen
+pub present-below : (r : Record) (n : ℕ) → sound r ≡ true → zoneAt r n .present ≡ true → n < 16
+present-below r n s p = by-place (ltb n 16) refl
+  where
+    by-place : (t : Bool) → ltb n 16 ≡ t → n < 16
+    by-place true k = ltb-true n 16 k
+    by-place false k =
+        let past : length (r .zones) ≤ n = omega (arith, sound-parts r s .sixteen, ltb-false n 16 k) in
+        never (ap (λ (z : Zone). z .present) (sym (List·getD-eq-default (r .zones) emptyZone {n = n} past)) ∙ p)
+
 -- in a sound record what is found is a present zone
 pub found-there : (r : Record) (address n : ℕ) → sound r ≡ true → findOf r address ≡ At n → noZone r n ≡ false
 found-there r address n s e =
     let here = is-first r address n e .here in
     let present = both (zoneAt r n .present) (eqb (zoneAt r n .address) address) here .0 in
-    rw (lt-leb 16 n (below present), present)
-  where
-    below : zoneAt r n .present ≡ true → n < 16
-    below p = by-place (ltb n 16) refl
-      where
-        by-place : (t : Bool) → ltb n 16 ≡ t → n < 16
-        by-place true k = ltb-true n 16 k
-        by-place false k =
-            let past : length (r .zones) ≤ n = omega (arith, sound-parts r s .sixteen, ltb-false n 16 k) in
-            never (ap (λ (z : Zone). z .present) (sym (List·getD-eq-default (r .zones) emptyZone {n = n} past)) ∙ p)
+    rw (lt-leb 16 n (present-below r n s present), present)
 
 -- ---- in a sound record a zone is found by its own address
 

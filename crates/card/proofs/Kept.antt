@@ -9,18 +9,20 @@ use borrow.Author.Tests.{ne-eqb, leb-false, not-false}
 use Rattle.zone.specs.declared.figures.Figures.{Figures}
 use Rattle.zone.specs.declared.figures.Command.{Command}
 use Rattle.zone.specs.declared.figures.Command.the-variants.{Read, Write}
+use Rattle.zone.specs.declared.sources.Source.{Source}
 use Rattle.zone.specs.declared.zones.Zone.{Zone}
 use Rattle.zone.specs.Lists.{isZero}
 use Rattle.zone.specs.Figures.{inRange}
+use Rattle.zone.specs.Sources.{inputInRange, setpointInUse}
 use Rattle.zone.specs.Zones.{newZone, emptyZone, figuresOf, stateNumbered, addressInRange, rangeKnown, actualInRange}
 use Rattle.zone.proofs.Tests.{both, neither}
-use Rattle.zone.proofs.Sound.{empty-sound, new-sound, status-sound, figures-sound}
+use Rattle.zone.proofs.Sound.{empty-sound, new-sound, status-sound, origin-sound, figures-sound}
 use Rattle.zone.proofs.Written.{sets-figures}
 use Rattle.card.specs.declared.records.Record.{Record}
 use Rattle.card.specs.Refusals.{Row, first, settled}
 use Rattle.card.specs.Records.{zoneAt, withZone, sound}
-use Rattle.card.specs.Calls.{addRows, addOf, Judgement, zoneRows, removeAt, removeOf, reportAt, reportOf, commandAt, applyOf}
-use Rattle.card.specs.Rules.{Keeps, ExactlyWhen, rowAt, numbersIn, addOrder, removeOrder, reportOrder, applyOrder, InOrder}
+use Rattle.card.specs.Calls.{addRows, addOf, Judgement, zoneRows, removeAt, removeOf, reportAt, reportOf, commandAt, applyOf, chooseSourceAt, chooseSourceOf, degrees, setpointInUseAt, setpointInUseOf}
+use Rattle.card.specs.Rules.{Keeps, ExactlyWhen, rowAt, numbersIn, addOrder, removeOrder, reportOrder, applyOrder, chooseSourceOrder, setpointInUseOrder, InOrder}
 use Rattle.card.proofs.Rows.{apart, exactly}
 use Rattle.card.proofs.Inner.{same-zone}
 use Rattle.card.proofs.Storing.{zone-sound, stored-new, stored-same}
@@ -78,6 +80,12 @@ pub apply-apart : (r : Record) (n : ℕ) (command : Command) → apart (zoneRows
 apply-apart r n (Read group) = refl
 apply-apart r n (Write figures) = refl
 
+pub choose-source-apart : (r : Record) (n : ℕ) (source : Source) (millivolts : ℕ) → apart (zoneRows r n (chooseSourceAt (zoneAt r n) source millivolts)) ≡ true
+choose-source-apart r n source millivolts = refl
+
+pub setpoint-in-use-apart : (r : Record) (n : ℕ) → apart (zoneRows r n (setpointInUseAt (zoneAt r n))) ≡ true
+setpoint-in-use-apart r n = refl
+
 -- ---- and their order
 
 pub add-order : (r : Record) (n address range : ℕ) → numbersIn (addRows r n address range) ≡ addOrder
@@ -88,6 +96,12 @@ remove-order r n = refl
 
 pub report-order : (r : Record) (n state actual : ℕ) → numbersIn (zoneRows r n (reportAt (zoneAt r n) state actual)) ≡ reportOrder
 report-order r n state actual = refl
+
+pub choose-source-order : (r : Record) (n : ℕ) (source : Source) (millivolts : ℕ) → numbersIn (zoneRows r n (chooseSourceAt (zoneAt r n) source millivolts)) ≡ chooseSourceOrder
+choose-source-order r n source millivolts = refl
+
+pub setpoint-in-use-order : (r : Record) (n : ℕ) → numbersIn (zoneRows r n (setpointInUseAt (zoneAt r n))) ≡ setpointInUseOrder
+setpoint-in-use-order r n = refl
 
 -- a write's is the whole order, a read's its beginning
 pub write-order : (r : Record) (n : ℕ) (figures : Figures) → numbersIn (zoneRows r n (commandAt (zoneAt r n) (Write figures))) ≡ applyOrder
@@ -115,6 +129,15 @@ pub apply-exactly : (r : Record) (n : ℕ) (command : Command) → ExactlyWhen (
 unfolding applyOf
 apply-exactly r n command = exactly (zoneRows r n (commandAt (zoneAt r n) command)) (apply-apart r n command)
 
+pub choose-source-exactly : (r : Record) (n : ℕ) (source : Source) (millivolts : ℕ)
+    → ExactlyWhen (zoneRows r n (chooseSourceAt (zoneAt r n) source millivolts)) (chooseSourceOf r n source millivolts .number)
+unfolding chooseSourceOf
+choose-source-exactly r n source millivolts = exactly (zoneRows r n (chooseSourceAt (zoneAt r n) source millivolts)) (choose-source-apart r n source millivolts)
+
+pub setpoint-in-use-exactly : (r : Record) (n : ℕ) → ExactlyWhen (zoneRows r n (setpointInUseAt (zoneAt r n))) (setpointInUseOf r n .number)
+unfolding setpointInUseOf
+setpoint-in-use-exactly r n = exactly (zoneRows r n (setpointInUseAt (zoneAt r n))) (setpoint-in-use-apart r n)
+
 -- ---- what each call keeps
 
 pub add-keeps : (r : Record) (n address range : ℕ) → Keeps r n (addOf r n address range)
@@ -138,9 +161,28 @@ report-keeps r n state actual =
     let ranges = both (leb state 3) (actualInRange actual) (not-false (leb state 3 && actualInRange actual) (k .own 0)) in
     stored-same r n (j .after) s (status-sound (zoneAt r n) (record { state = stateNumbered state; actual = actual }) (k .present) (zone-sound r n s) (ranges .1)) refl refl)
 
+-- a call that tells and sets nothing
+telling-keeps : (r : Record) (n : ℕ) (rows : List Row) (values : List Figures) → Keeps r n (settled r rows values (withZone r n (zoneAt r n)))
+telling-keeps r n rows values = keeps r n rows values (zoneAt r n) (λ e s. rw (same-zone r n) s)
+
+pub setpoint-in-use-keeps : (r : Record) (n : ℕ) → Keeps r n (setpointInUseOf r n)
+unfolding setpointInUseOf
+setpoint-in-use-keeps r n = telling-keeps r n (zoneRows r n (setpointInUseAt (zoneAt r n))) (degrees (setpointInUse (zoneAt r n)))
+
+pub choose-source-keeps : (r : Record) (n : ℕ) (source : Source) (millivolts : ℕ) → Keeps r n (chooseSourceOf r n source millivolts)
+unfolding chooseSourceOf
+choose-source-keeps r n source millivolts =
+    let j = chooseSourceAt (zoneAt r n) source millivolts in
+    keeps r n (zoneRows r n j) [] (j .after) (λ e s.
+    let k = done-at-zone r n j (choose-source-apart r n source millivolts) e in
+    stored-same r n (j .after) s
+    (origin-sound (zoneAt r n) (record { source = source; millivolts = millivolts }) (k .present) (zone-sound r n s) (not-false (inputInRange millivolts) (k .own 0)))
+    refl
+    refl)
+
 pub apply-keeps : (r : Record) (n : ℕ) (command : Command) → Keeps r n (applyOf r n command)
 unfolding applyOf
-apply-keeps r n (Read group) = keeps r n (zoneRows r n (commandAt (zoneAt r n) (Read group))) (figuresOf (zoneAt r n) group ∷ []) (zoneAt r n) (λ e s. rw (same-zone r n) s)
+apply-keeps r n (Read group) = telling-keeps r n (zoneRows r n (commandAt (zoneAt r n) (Read group))) (figuresOf (zoneAt r n) group ∷ [])
 apply-keeps r n (Write figures) =
     let j = commandAt (zoneAt r n) (Write figures) in
     let sets = sets-figures (zoneAt r n) figures in

@@ -3,6 +3,7 @@ pub mod Mending
 pub mod Inner
 pub mod Rows
 pub mod Storing
+pub mod Mapped
 pub mod Kept
 pub mod Sets
 pub mod Found

@@ -5,7 +5,7 @@ use mathlib.Core.Logic.{_↔_, inl, inr}
 use mathlib.Core.Bool.{Bool, true, false, cond}
 use mathlib.Core.List.{List, [], _∷_, map}
 use native.Mathlib.Omega.{arith}
-use lib.ListN.{getD, length-map}
+use lib.ListN.{getD, List·getD-map}
 use lib.Seq.{take-append-seam}
 use borrow.Author.Tests.{not-false}
 use Rattle.zone.specs.declared.figures.Figures.{Figures}
@@ -13,19 +13,20 @@ use Rattle.zone.specs.declared.figures.Figures.the-variants.{AhueWindow}
 use Rattle.zone.specs.declared.figures.WindowFigures.{WindowFigures}
 use Rattle.zone.specs.declared.zones.Zone.{Zone}
 use Rattle.zone.specs.Lists.{every, isZero}
-use Rattle.zone.specs.Zones.{emptyZone, zoneOtherwiseSound, windowOpens, opened, mended, endOf}
+use Rattle.zone.specs.Zones.{emptyZone, zoneOtherwiseSound, windowOpens, zoneSound, opened, mended, endOf}
 use Rattle.zone.specs.Rules.{SetsFigures, Shut}
 use Rattle.zone.proofs.Tests.{never, both, not-so}
-use Rattle.zone.proofs.Sound.{empty-sound, sound-zone-parts}
+use Rattle.zone.proofs.Sound.{empty-sound, sound-zone, sound-zone-parts}
 use Rattle.zone.proofs.Mended.{window-present, by-window, shut-breaks, mended-same, mended-sets, mended-present, mended-address, mended-opens, mended-otherwise}
 use Rattle.card.specs.declared.records.Record.{Record}
 use Rattle.card.specs.declared.records.OldEnd.{OldEnd}
 use Rattle.card.specs.Refusals.{first}
-use Rattle.card.specs.Records.{zoneAt, heldIn, differ, otherwiseSound, sound}
+use Rattle.card.specs.Records.{zoneAt, otherwiseSound, sound}
 use Rattle.card.specs.Calls.{repairRows, allMended, oldEndsFrom, toldAs, repairOf}
 use Rattle.card.specs.Rules.{ExactlyWhen, numbersIn, repairOrder, toldIn, IsTold, Rising, leaves, RepairMends, RepairRefused, RepairOfSound, RepairAgain, SoundAsBefore}
 use Rattle.card.proofs.Rows.{exactly}
-use Rattle.card.proofs.Storing.{every-at, every-where, otherwise-parts, otherwise-whole, sound-both, both-sound}
+use Rattle.card.proofs.Storing.{every-at, every-where, sound-whole, otherwise-parts, sound-both, both-sound}
+use Rattle.card.proofs.Mapped.{mapped-parts}
 
 -- ---- when it is refused
 
@@ -71,13 +72,8 @@ not-otherwise r e = not-so (sound r) (λ s. never (sym e ∙ sound-both r s .0))
 
 -- ---- zone by zone
 
-mended-at : (zs : List Zone) (n : ℕ) → getD (map mended zs) n emptyZone ≡ mended (getD zs n emptyZone)
-mended-at [] n = refl
-mended-at (z ∷ zs) zero = refl
-mended-at (z ∷ zs) (suc n) = mended-at zs n
-
 after-at : (r : Record) (n : ℕ) → otherwiseSound r ≡ true → zoneAt (repairOf r .result .after) n ≡ mended (zoneAt r n)
-after-at r n e = ap (λ (x : Record). zoneAt x n) (done-after r e) ∙ mended-at (r .zones) n
+after-at r n e = ap (λ (x : Record). zoneAt x n) (done-after r e) ∙ List·getD-map mended (r .zones) n emptyZone
 
 -- a zone that is mended is present
 pub shut-present : (r : Record) (n : ℕ) (f : WindowFigures) → repairOf r .result .number ≡ 0 → Shut (zoneAt r n) f → zoneAt r n .present ≡ true
@@ -151,31 +147,10 @@ told-list l = take-append-seam l _
 
 -- ---- what is handed back is sound
 
-every-mended : (zs : List Zone) → every zoneOtherwiseSound zs ≡ true → every zoneOtherwiseSound (map mended zs) ≡ true
-every-mended [] s = refl
-every-mended (z ∷ zs) s =
-    let parts = both (zoneOtherwiseSound z) (every zoneOtherwiseSound zs) s in
-    rw (mended-otherwise z (parts .0), every-mended zs (parts .1))
-
-open-mended : (zs : List Zone) → every windowOpens (map mended zs) ≡ true
-open-mended [] = refl
-open-mended (z ∷ zs) = rw (mended-opens z) (open-mended zs)
-
-held-mended : (zs : List Zone) (a : ℕ) → heldIn (map mended zs) a ≡ heldIn zs a
-held-mended [] a = refl
-held-mended (z ∷ zs) a = rw (mended-present z, mended-address z, held-mended zs a)
-
-differ-mended : (zs : List Zone) → differ (map mended zs) ≡ differ zs
-unfolding differ
-differ-mended [] = refl
-differ-mended (z ∷ zs) = rw (mended-present z, mended-address z, held-mended zs (z .address), differ-mended zs)
-
 mended-sound : (r : Record) → otherwiseSound r ≡ true → sound (allMended r) ≡ true
 mended-sound r s =
-    let k = otherwise-parts r s in
-    both-sound (allMended r)
-    (otherwise-whole (allMended r) (record { sixteen = length-map (r .zones) mended ∙ k .sixteen; zones = every-mended (r .zones) (k .zones); addresses = differ-mended (r .zones) ∙ k .addresses }))
-    (open-mended (r .zones))
+    sound-whole (allMended r)
+    (mapped-parts mended mended-present mended-address zoneOtherwiseSound zoneSound (λ z e. sound-zone (mended z) (mended-otherwise z e) (mended-opens z)) r (otherwise-parts r s))
 
 -- ---- all of it
 

@@ -9,21 +9,23 @@ use borrow.Author.Tests.{lt-leb, leb-false, not-false}
 use Rattle.zone.specs.declared.figures.Group.{Group}
 use Rattle.zone.specs.declared.figures.Figures.{Figures}
 use Rattle.zone.specs.declared.figures.Command.the-variants.{Read, Write}
+use Rattle.zone.specs.declared.sources.Source.{Source}
 use Rattle.zone.specs.declared.zones.Zone.{Zone}
 use Rattle.zone.specs.Lists.{isZero}
 use Rattle.zone.specs.Figures.{groupOf}
+use Rattle.zone.specs.Sources.{setpointInUse}
 use Rattle.zone.specs.Zones.{newZone, emptyZone, figuresOf, stateNumbered, addressInRange, rangeKnown}
-use Rattle.zone.specs.Rules.{SetsFigures, SetsStatus}
+use Rattle.zone.specs.Rules.{SetsFigures, SetsStatus, SetsOrigin}
 use Rattle.zone.proofs.Sound.{fits}
-use Rattle.zone.proofs.Written.{sets-figures, sets-status}
+use Rattle.zone.proofs.Written.{sets-figures, sets-status, sets-origin}
 use Rattle.card.specs.declared.records.Record.{Record}
 use Rattle.card.specs.Refusals.{Row, first, settled}
 use Rattle.card.specs.Records.{zoneAt, withZone, heldIn, sound}
-use Rattle.card.specs.Calls.{addRows, addOf, Judgement, zoneRows, atZone, removeAt, removeOf, reportAt, reportOf, commandAt, applyOf}
+use Rattle.card.specs.Calls.{addRows, addOf, Judgement, zoneRows, atZone, removeAt, removeOf, reportAt, reportOf, commandAt, applyOf, chooseSourceAt, chooseSourceOf, degrees, setpointInUseAt, setpointInUseOf}
 use Rattle.card.specs.Rules.{Frees}
 use Rattle.card.proofs.Inner.{same-zone}
 use Rattle.card.proofs.Storing.{sound-parts, zone-sound, freed}
-use Rattle.card.proofs.Kept.{AtZone, done-at-zone, remove-apart, report-apart, apply-apart, remove-keeps, apply-keeps}
+use Rattle.card.proofs.Kept.{AtZone, done-at-zone, remove-apart, report-apart, apply-apart, choose-source-apart, remove-keeps, apply-keeps}
 use Rattle.card.proofs.Rows.{exactly}
 
 -- ---- once, for every call
@@ -52,6 +54,11 @@ pub write-at-zone : (r : Record) (n : ℕ) (figures : Figures) → applyOf r n (
 unfolding applyOf
 write-at-zone r n figures e = done-at-zone r n (commandAt (zoneAt r n) (Write figures)) (apply-apart r n (Write figures)) e
 
+pub choose-source-at-zone : (r : Record) (n : ℕ) (source : Source) (millivolts : ℕ) → chooseSourceOf r n source millivolts .number ≡ 0
+    → AtZone r n (chooseSourceAt (zoneAt r n) source millivolts)
+unfolding chooseSourceOf
+choose-source-at-zone r n source millivolts e = done-at-zone r n (chooseSourceAt (zoneAt r n) source millivolts) (choose-source-apart r n source millivolts) e
+
 -- ---- what each call sets
 
 pub add-sets : (r : Record) (n address range : ℕ) → addOf r n address range .number ≡ 0 → zoneAt (addOf r n address range .after) n ≡ newZone address range
@@ -78,22 +85,43 @@ write-sets r n figures e =
     let j = commandAt (zoneAt r n) (Write figures) in
     rw (done-zone r n j (write-at-zone r n figures e) e) (sets-figures (zoneAt r n) figures)
 
+pub choose-source-sets : (r : Record) (n : ℕ) (source : Source) (millivolts : ℕ) → chooseSourceOf r n source millivolts .number ≡ 0
+    → SetsOrigin (zoneAt r n) (record { source = source; millivolts = millivolts }) (zoneAt (chooseSourceOf r n source millivolts .after) n)
+unfolding chooseSourceOf
+choose-source-sets r n source millivolts e =
+    let j = chooseSourceAt (zoneAt r n) source millivolts in
+    rw (done-zone r n j (choose-source-at-zone r n source millivolts e) e) (sets-origin (zoneAt r n) (record { source = source; millivolts = millivolts }))
+
 -- ---- reading
 
--- "a read alters nothing", whatever it answers
-pub read-alters-nothing : (r : Record) (n : ℕ) (group : Group) → applyOf r n (Read group) .after ≡ r
-unfolding applyOf
-read-alters-nothing r n group = by-done (isZero (first (zoneRows r n (commandAt (zoneAt r n) (Read group)))))
+-- a call that hands back the zone as it was, whatever it answers, hands back the record as it was
+nothing-altered : (r : Record) (n : ℕ) (rows : List Row) (values : List Figures) → settled r rows values (withZone r n (zoneAt r n)) .after ≡ r
+nothing-altered r n rows values = by-done (isZero (first rows))
   where
     by-done : (done : Bool) → cond done (withZone r n (zoneAt r n)) r ≡ r
     by-done true = same-zone r n
     by-done false = refl
+
+-- "a read alters nothing"
+pub read-alters-nothing : (r : Record) (n : ℕ) (group : Group) → applyOf r n (Read group) .after ≡ r
+unfolding applyOf
+read-alters-nothing r n group = nothing-altered r n (zoneRows r n (commandAt (zoneAt r n) (Read group))) (figuresOf (zoneAt r n) group ∷ [])
+
+pub setpoint-in-use-alters-nothing : (r : Record) (n : ℕ) → setpointInUseOf r n .after ≡ r
+unfolding setpointInUseOf
+setpoint-in-use-alters-nothing r n = nothing-altered r n (zoneRows r n (setpointInUseAt (zoneAt r n))) (degrees (setpointInUse (zoneAt r n)))
 
 -- a present zone of a sound record tells its figures
 pub read-tells : (r : Record) (n : ℕ) (group : Group) → sound r ≡ true → n < 16 → zoneAt r n .present ≡ true
     → (applyOf r n (Read group) .number ≡ 0) × (applyOf r n (Read group) .values ≡ figuresOf (zoneAt r n) group ∷ [])
 unfolding applyOf
 read-tells r n group s l p = (rw (s, lt-leb 16 n l, p), rw (s, lt-leb 16 n l, p))
+
+-- and its setpoint in use
+pub setpoint-in-use-tells : (r : Record) (n : ℕ) → sound r ≡ true → n < 16 → zoneAt r n .present ≡ true
+    → (setpointInUseOf r n .number ≡ 0) × (setpointInUseOf r n .values ≡ degrees (setpointInUse (zoneAt r n)))
+unfolding setpointInUseOf
+setpoint-in-use-tells r n s l p = (rw (s, lt-leb 16 n l, p), rw (s, lt-leb 16 n l, p))
 
 -- ---- one call after the other
 

@@ -119,7 +119,7 @@ pub sound-parts : (r : Record) → sound r ≡ true → SoundBy zoneSound r
 unfolding sound
 sound-parts r s = parts zoneSound r s
 
-sound-whole : (r : Record) → SoundBy zoneSound r → sound r ≡ true
+pub sound-whole : (r : Record) → SoundBy zoneSound r → sound r ≡ true
 unfolding sound
 sound-whole r k = whole zoneSound r k
 
@@ -128,7 +128,7 @@ pub otherwise-parts : (r : Record) → otherwiseSound r ≡ true → SoundBy zon
 unfolding otherwiseSound
 otherwise-parts r s = parts zoneOtherwiseSound r s
 
-pub otherwise-whole : (r : Record) → SoundBy zoneOtherwiseSound r → otherwiseSound r ≡ true
+otherwise-whole : (r : Record) → SoundBy zoneOtherwiseSound r → otherwiseSound r ≡ true
 unfolding otherwiseSound
 otherwise-whole r k = whole zoneOtherwiseSound r k
 

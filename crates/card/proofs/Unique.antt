@@ -6,6 +6,7 @@ use mathlib.Core.List.{[], _∷_}
 use native.Mathlib.Omega.{arith}
 use lib.ListN.{getD}
 use Rattle.zone.specs.declared.figures.Command.{Command}
+use Rattle.zone.specs.declared.sources.Source.{Source}
 use Rattle.card.specs.declared.answers.Refusal.{Refusal}
 use Rattle.card.specs.declared.answers.Refusal.the-variants.{NoRoom, NotSound, NoZone, NoFrame, NobodyHolds, Checksum, Unknown, Syntax, OutOfRange, Locked, AddressHeld, AlreadyPresent, Unreadable}
 use Rattle.card.specs.declared.answers.Answer.{Answer}
@@ -22,6 +23,8 @@ use Rattle.card.proofs.records.Record.add.Reads as add
 use Rattle.card.proofs.records.Record.remove.Reads as remove
 use Rattle.card.proofs.records.Record.report.Reads as report
 use Rattle.card.proofs.records.Record.apply.Reads as apply
+use Rattle.card.proofs.records.Record.choose_source.Reads as choose-source
+use Rattle.card.proofs.records.Record.setpoint_in_use.Reads as setpoint-in-use
 use Rattle.card.proofs.records.Record.repair.Reads as repair
 
 -- ---- number and values tell the answer
@@ -87,6 +90,14 @@ report-unique r n state actual o o′ p q = one-outcome o o′ (p ∙ sym q)
 pub apply-unique : (r : Record) (n : ℕ) (command : Command) (o o′ : Outcome)
     → apply.Post tt (r, (n, (command, tt))) o (r, (n, (command, tt))) → apply.Post tt (r, (n, (command, tt))) o′ (r, (n, (command, tt))) → o ≡ o′
 apply-unique r n command o o′ p q = one-outcome o o′ (p ∙ sym q)
+
+pub choose-source-unique : (r : Record) (n : ℕ) (source : Source) (millivolts : ℕ) (o o′ : Outcome)
+    → choose-source.Post tt (r, (n, (source, (millivolts, tt)))) o (r, (n, (source, (millivolts, tt))))
+    → choose-source.Post tt (r, (n, (source, (millivolts, tt)))) o′ (r, (n, (source, (millivolts, tt)))) → o ≡ o′
+choose-source-unique r n source millivolts o o′ p q = one-outcome o o′ (p ∙ sym q)
+
+pub setpoint-in-use-unique : (r : Record) (n : ℕ) (o o′ : Outcome) → setpoint-in-use.Post tt (r, (n, tt)) o (r, (n, tt)) → setpoint-in-use.Post tt (r, (n, tt)) o′ (r, (n, tt)) → o ≡ o′
+setpoint-in-use-unique r n o o′ p q = one-outcome o o′ (p ∙ sym q)
 
 pub find-unique : (r : Record) (address : ℕ) (f f′ : Found) → find.Post tt (r, (address, tt)) f (r, (address, tt)) → find.Post tt (r, (address, tt)) f′ (r, (address, tt)) → f ≡ f′
 find-unique r address f f′ p q = p ∙ sym q

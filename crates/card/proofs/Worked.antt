@@ -1,4 +1,4 @@
--- Worked calls, computed: what is answered is what document 01 says, in one table for each call. Assumes nothing.
+-- Worked calls, computed: what is answered is what documents 01 and 02 say, in one table for each call. Assumes nothing.
 use Prim.Native.Nat.{ℕ}
 use mathlib.Core.Path.{_≡_, refl}
 use mathlib.Core.Bool.{true}
@@ -7,14 +7,17 @@ use Rattle.zone.specs.declared.figures.Group.the-variants as group
 use Rattle.zone.specs.declared.figures.Figures.{Figures}
 use Rattle.zone.specs.declared.figures.Figures.the-variants.{AhueDeadline, AhueWindow, HzbgLimit, RrueReference, SolwSetpoint}
 use Rattle.zone.specs.declared.figures.Command.the-variants.{Read, Write}
+use Rattle.zone.specs.declared.sources.Source.{Source}
+use Rattle.zone.specs.declared.sources.Source.the-variants.{Interface, Voltage}
 use Rattle.zone.specs.declared.zones.Watch.the-variants.{Window}
 use Rattle.zone.specs.Figures.{eachInRange, inRange, allZero}
 use Rattle.zone.specs.declared.zones.Zone.{Zone}
-use Rattle.zone.specs.Zones.{newZone, emptyZone, zoneOtherwiseSound, zoneSound, stateNumbered, withStatus, withWatch}
+use Rattle.zone.specs.Zones.{newZone, emptyZone, zoneOtherwiseSound, zoneSound, stateNumbered, withStatus, withWatch, withOrigin}
 use Rattle.card.specs.declared.records.Record.{Record}
 use Rattle.card.specs.declared.records.Found.the-variants.{At, Nowhere}
+use Rattle.card.specs.Answers.{Result}
 use Rattle.card.specs.Records.{emptyRecord, withZone, differ, otherwiseSound, sound, findFrom, findOf}
-use Rattle.card.specs.Calls.{addOf, removeOf, reportOf, applyOf, oldEndsFrom, repairOf}
+use Rattle.card.specs.Calls.{addOf, removeOf, reportOf, applyOf, chooseSourceOf, degrees, setpointInUseOf, oldEndsFrom, repairOf}
 use Rattle.card.specs.Rules.{toldIn, leaves}
 
 -- ---- soundness
@@ -32,7 +35,7 @@ start : Record
 unfolding addOf sound otherwiseSound differ zoneSound zoneOtherwiseSound inRange eachInRange allZero
 start = addOf emptyRecord 5 33 300 .after
 
--- records that are not sound: an absent zone with a window of zeros, one with a new zone's figures, two zones with one address, a setpoint of 301 in 300 degrees
+-- records that are not sound: an absent zone with a window of zeros, one with a new zone's figures, two zones with one address, a setpoint of 301 in 300 degrees, an input of 10,001 mV, an absent zone with 1 mV and one with source voltage
 unsound : List Record
 unfolding start
 unsound =
@@ -40,10 +43,13 @@ unsound =
     ∷ withZone start 2 (withWatch emptyZone (newZone 33 300 .watch))
     ∷ withZone start 2 (newZone 33 500)
     ∷ withZone start 2 (Rattle.zone.specs.Zones.withFigures (newZone 34 300) (SolwSetpoint (record { setpoint = 301 })))
+    ∷ withZone start 2 (withOrigin (newZone 34 300) (record { source = Interface; millivolts = 10001 }))
+    ∷ withZone start 2 (withOrigin emptyZone (record { source = Interface; millivolts = 1 }))
+    ∷ withZone start 2 (withOrigin emptyZone (record { source = Voltage; millivolts = 0 }))
     ∷ []
 
 -- one bad zone spoils every call: 2, also where another zone is meant
-spoilt : map (λ r. applyOf r 5 (Read group.Hzbg) .number) unsound ≡ 2 ∷ 2 ∷ 2 ∷ 2 ∷ []
+spoilt : map (λ r. applyOf r 5 (Read group.Hzbg) .number) unsound ≡ 2 ∷ 2 ∷ 2 ∷ 2 ∷ 2 ∷ 2 ∷ 2 ∷ []
 unfolding unsound start addOf applyOf sound otherwiseSound differ zoneSound zoneOtherwiseSound inRange eachInRange allZero
 spoilt = refl
 
@@ -147,6 +153,67 @@ found : map (findOf start) (33 ∷ 34 ∷ 0 ∷ 65569 ∷ []) ≡ At 5 ∷ Nowhe
 unfolding start addOf sound otherwiseSound differ zoneSound zoneOtherwiseSound inRange eachInRange allZero findFrom
 found = refl
 
+-- ---- who sets the temperature (document 02, Req 08)
+
+-- the state that zone 5 is in, and the zone, source and millivolts that are chosen
+choosing : List (Asked (ℕ × ℕ × Source × ℕ))
+choosing =
+    ((0, 5, Voltage, 10000) is 0)
+    ∷ ((0, 5, Interface, 10000) is 0)
+    ∷ ((1, 5, Voltage, 0) is 0)
+    ∷ ((2, 5, Voltage, 1) is 0)
+    ∷ ((3, 5, Interface, 0) is 0)
+    ∷ ((0, 5, Voltage, 10001) is 9)
+    ∷ ((1, 5, Interface, 10001) is 9)
+    ∷ ((0, 5, Voltage, 65536) is 9)
+    ∷ ((0, 5, Voltage, 4294967295) is 9)
+    ∷ ((0, 4, Voltage, 0) is 3)
+    ∷ ((0, 4, Voltage, 10001) is 3)
+    ∷ ((0, 16, Voltage, 0) is 3)
+    ∷ ((0, 65541, Voltage, 0) is 3)
+    ∷ []
+
+chosen : map (λ a. chooseSourceOf (reportOf start 5 (a .asks .0) 20 .after) (a .asks .1) (a .asks .2) (a .asks .3) .number) choosing ≡ map (λ a. a .gives) choosing
+unfolding choosing start addOf reportOf chooseSourceOf sound otherwiseSound differ zoneSound zoneOtherwiseSound inRange eachInRange allZero
+chosen = refl
+
+-- zone 5, with a setpoint of 185 and a range of 300, beside zone 6 with 0 and 500
+commanded : Record
+unfolding start
+commanded = addOf (applyOf start 5 (Write (SolwSetpoint (record { setpoint = 185 }))) .after) 6 34 500 .after
+
+-- source and millivolts, and what is then in use in zone 5 and in zone 6
+usage : List (Source × ℕ × ℕ × ℕ)
+usage =
+    (Voltage, 0, 0, 0)
+    ∷ (Voltage, 10000, 300, 500)
+    ∷ (Voltage, 5000, 150, 250)
+    ∷ (Voltage, 9999, 299, 499)
+    ∷ (Voltage, 19, 0, 0)
+    ∷ (Voltage, 20, 0, 1)
+    ∷ (Voltage, 33, 0, 1)
+    ∷ (Voltage, 34, 1, 1)
+    ∷ (Interface, 5000, 185, 0)
+    ∷ (Interface, 0, 185, 0)
+    ∷ []
+
+inUseAt : ℕ → List (List Figures)
+inUseAt n = map (λ a. setpointInUseOf (chooseSourceOf commanded n (a .0) (a .1) .after) n .values) usage
+
+used : (inUseAt 5 ≡ map (λ a. degrees (a .2)) usage) × (inUseAt 6 ≡ map (λ a. degrees (a .3)) usage)
+unfolding inUseAt usage commanded start addOf applyOf chooseSourceOf setpointInUseOf sound otherwiseSound differ zoneSound zoneOtherwiseSound inRange eachInRange allZero
+used = (refl, refl)
+
+-- "LSOLW and SOLW keep to the commanded figure": under voltage SOLW is done and LSOLW tells what it wrote, and what is in use is another
+written-under-voltage : Result Record
+written-under-voltage = applyOf (chooseSourceOf commanded 5 Voltage 5000 .after) 5 (Write (SolwSetpoint (record { setpoint = 300 })))
+
+keeps-to-commanded : (written-under-voltage .number ≡ 0)
+    × (applyOf (written-under-voltage .after) 5 (Read group.Solw) .values ≡ degrees 300)
+    × (setpointInUseOf (written-under-voltage .after) 5 .values ≡ degrees 150)
+unfolding written-under-voltage commanded start addOf applyOf chooseSourceOf setpointInUseOf sound otherwiseSound differ zoneSound zoneOtherwiseSound inRange eachInRange allZero
+keeps-to-commanded = (refl, refl, refl)
+
 -- ---- a repair (document 02, Req 06)
 
 -- zone 2 with that window
@@ -195,7 +262,7 @@ unfolding withWindow start addOf repairOf oldEndsFrom sound otherwiseSound diffe
 shut-and-faulty = refl
 
 -- another fault anywhere: 2
-spoilt-too : map (λ r. repairOf r .result .number) unsound ≡ 2 ∷ 2 ∷ 2 ∷ 2 ∷ []
+spoilt-too : map (λ r. repairOf r .result .number) unsound ≡ 2 ∷ 2 ∷ 2 ∷ 2 ∷ 2 ∷ 2 ∷ 2 ∷ []
 unfolding unsound start addOf repairOf sound otherwiseSound differ zoneSound zoneOtherwiseSound inRange eachInRange allZero
 spoilt-too = refl
 

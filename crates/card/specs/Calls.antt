@@ -1,4 +1,4 @@
--- What each call comes to, for every record, sound or not. Its refusals stand in document 01's order, those of the repair, at the end, in document 02's.
+-- What each call comes to, for every record, sound or not. Its refusals stand in document 01's order, those of the source and the setpoint in use, and of the repair, at the end, in document 02's.
 use Prim.Native.Nat.{ℕ, suc, _-_}
 use mathlib.Core.Bool.{Bool, cond, not, _&&_}
 use mathlib.Core.List.{List, [], _∷_, _++_, map}
@@ -7,10 +7,13 @@ use lib.Dec.{leb}
 use Rattle.zone.specs.declared.figures.Figures.{Figures}
 use Rattle.zone.specs.declared.figures.Command.{Command}
 use Rattle.zone.specs.declared.figures.Command.the-variants.{Read, Write}
+use Rattle.zone.specs.declared.figures.Figures.the-variants.{SolwSetpoint}
+use Rattle.zone.specs.declared.sources.Source.{Source}
 use Rattle.zone.specs.declared.zones.Zone.{Zone}
 use Rattle.zone.specs.Lists.{isZero}
 use Rattle.zone.specs.Figures.{groupOf, inRange}
-use Rattle.zone.specs.Zones.{newZone, emptyZone, figuresOf, addressInRange, rangeKnown, actualInRange, stateNumbered, withStatus, withFigures, locks, windowOpens, mended, endOf}
+use Rattle.zone.specs.Sources.{inputInRange, setpointInUse}
+use Rattle.zone.specs.Zones.{newZone, emptyZone, figuresOf, addressInRange, rangeKnown, actualInRange, stateNumbered, withStatus, withFigures, withOrigin, locks, windowOpens, mended, endOf}
 use Rattle.card.specs.declared.records.Record.{Record}
 use Rattle.card.specs.declared.records.OldEnd.{OldEnd}
 use Rattle.card.specs.declared.records.OldEnds.{OldEnds}
@@ -84,6 +87,30 @@ commandAt z (Write figures) = writeAt z figures
 
 unfoldable pub applyOf : Record → ℕ → Command → Result Record
 applyOf r n command = atZone r n (commandAt (zoneAt r n) command)
+
+-- ---- "Who sets the temperature" (document 02, Req 08): "One call sets them, another gives the setpoint in use"
+
+-- "9 for more than 10,000 mV, order 2, 3, 9", the first two in zoneRows. No state forbids it: 10 is not in the order
+abbrev pub chooseSourceAt : Zone → Source → ℕ → Judgement
+chooseSourceAt z source millivolts = record {
+  rows = (not (inputInRange millivolts) gives 9) ∷ [];
+  values = [];
+  after = withOrigin z (record { source = source; millivolts = millivolts });
+}
+
+unfoldable pub chooseSourceOf : Record → ℕ → Source → ℕ → Result Record
+chooseSourceOf r n source millivolts = atZone r n (chooseSourceAt (zoneAt r n) source millivolts)
+
+-- what is told of a setpoint
+abbrev pub degrees : ℕ → List Figures
+degrees setpoint = SolwSetpoint (record { setpoint = setpoint }) ∷ []
+
+-- 2, 3, in zoneRows: of the order no more applies. It alters nothing
+abbrev pub setpointInUseAt : Zone → Judgement
+setpointInUseAt z = record { rows = []; values = degrees (setpointInUse z); after = z }
+
+unfoldable pub setpointInUseOf : Record → ℕ → Result Record
+setpointInUseOf r n = atZone r n (setpointInUseAt (zoneAt r n))
 
 -- ---- "For cards in the field a repair call" (document 02, Req 06): in every state, and without arguments
 

@@ -18,7 +18,7 @@ use Rattle.card.specs.Records.{zoneAt, heldIn, otherwiseSound, sound}
 use Rattle.card.specs.Calls.{addOf, toldAs, Repair, repairOf}
 
 -- What every call on zone n of r keeps, whatever it answers.
--- add-keeps, remove-keeps, report-keeps and apply-keeps, in proofs/Kept.antt
+-- add-keeps, remove-keeps, report-keeps, apply-keeps, choose-source-keeps and setpoint-in-use-keeps, in proofs/Kept.antt
 pub record Keeps (r : Record) (n : ℕ) (o : Result Record) : Type 0 where
   -- "Every refusal hands back the record it was given", and tells nothing
   pub refusal : (o .number ≡ 0 → ⊥) → (o .after ≡ r) × (o .values ≡ [])
@@ -32,7 +32,7 @@ abbrev pub rowAt : List Row → ℕ → Row
 rowAt rows i = getD rows i (false gives 0)
 
 -- "Given exactly when".
--- add-exactly, remove-exactly, report-exactly and apply-exactly, in proofs/Kept.antt; repair-exactly, in proofs/Repairs.antt
+-- add-exactly, remove-exactly, report-exactly, apply-exactly, choose-source-exactly and setpoint-in-use-exactly, in proofs/Kept.antt; repair-exactly, in proofs/Repairs.antt
 pub record ExactlyWhen (rows : List Row) (number : ℕ) : Type 0 where
   -- a row's number is given if and only if its test holds and no earlier one does
   pub refused : (i : ℕ) → i < length rows → (number ≡ rowAt rows i .number) ↔ ((rowAt rows i .test ≡ true) × ((j : ℕ) → j < i → rowAt rows j .test ≡ false))
@@ -61,12 +61,19 @@ reportOrder = 2 ∷ 3 ∷ 9 ∷ []
 abbrev pub applyOrder : List ℕ
 applyOrder = 2 ∷ 3 ∷ 9 ∷ 10 ∷ []
 
+-- document 02, Req 08: "9 for more than 10,000 mV, order 2, 3, 9"; of the setpoint in use its beginning
+abbrev pub chooseSourceOrder : List ℕ
+chooseSourceOrder = 2 ∷ 3 ∷ 9 ∷ []
+
+abbrev pub setpointInUseOrder : List ℕ
+setpointInUseOrder = 2 ∷ 3 ∷ []
+
 -- document 02, Req 06: "Any other unsoundness gives 2"
 abbrev pub repairOrder : List ℕ
 repairOrder = 2 ∷ []
 
 -- The refusals stand in the printed order: all of it, or its beginning.
--- add-order, remove-order, report-order, apply-order and, of a write, write-order, in proofs/Kept.antt; repair-order, in proofs/Repairs.antt
+-- add-order, remove-order, report-order, choose-source-order, setpoint-in-use-order, apply-order and, of a write, write-order, in proofs/Kept.antt; repair-order, in proofs/Repairs.antt
 abbrev pub InOrder : List Row → List ℕ → Type 0
 InOrder rows printed = numbersIn rows ≡ take (length rows) printed
 

@@ -3,14 +3,20 @@ use crate::answers::Answer;
 use crate::answers::Refusal;
 use zone::Command;
 use zone::Figures;
+use zone::Origin;
+use zone::SetpointFigures;
+use zone::Source;
 use zone::State;
 use zone::Status;
 use zone::Zone;
 use zone::actual_in_range;
 use zone::address_in_range;
+use zone::input_in_range;
 use zone::range_known;
 ghost use mathlib.Core.Path.{_≡_};
-ghost use Rattle.card.specs.Calls.{addAt, reportAt, writeAt, commandAt};
+ghost use mathlib.Core.Bool.{true};
+ghost use Rattle.zone.specs.Zones.{zoneSound};
+ghost use Rattle.card.specs.Calls.{addAt, reportAt, writeAt, commandAt, chooseSourceAt, setpointInUseAt};
 ghost use Rattle.card.specs.Inner as steps;
 
 // What a road brings to a zone: a command, or the refusal that its bytes met with.
@@ -27,6 +33,7 @@ pub enum Verdict {
     Reports(Status),
     Adds(u32, u32),
     Removes,
+    Chooses(Origin),
 }
 
 impl Verdict {
@@ -40,6 +47,7 @@ impl Verdict {
             Verdict::Reports(_) => Answer::Done,
             Verdict::Adds(_, _) => Answer::Done,
             Verdict::Removes => Answer::Done,
+            Verdict::Chooses(_) => Answer::Done,
         }
     }
 
@@ -54,6 +62,7 @@ impl Verdict {
             Verdict::Reports(_) => true,
             Verdict::Adds(_, _) => true,
             Verdict::Removes => true,
+            Verdict::Chooses(_) => true,
         }
     }
 
@@ -68,6 +77,7 @@ impl Verdict {
             Verdict::Reports(status) => z.with_status(status),
             Verdict::Adds(address, range) => Zone::new(address, range),
             Verdict::Removes => z.emptied(),
+            Verdict::Chooses(origin) => z.with_origin(origin),
         }
     }
 }
@@ -99,6 +109,29 @@ pub fn reported(z: Zone, state: u32, actual: u32) -> Verdict
         state: State::numbered(state),
         actual: actual,
     })
+}
+
+// A choice of the source at a zone, with the voltage at its input.
+pub fn chosen(z: Zone, source: Source, millivolts: u32) -> Verdict
+    ensures { λ r. ⌜ steps.verdictSeen z r ≡ steps.judged z (chooseSourceAt z source millivolts) ⌝ }
+{
+    if !input_in_range(millivolts) {
+        return Verdict::Refuses(Refusal::OutOfRange);
+    }
+    Verdict::Chooses(Origin {
+        source: source,
+        millivolts: millivolts,
+    })
+}
+
+// The setpoint in use, of a zone of a sound record.
+pub fn used(z: Zone) -> Verdict
+    requires { ⌜ zoneSound z ≡ true ⌝ }
+    ensures { λ r. ⌜ steps.verdictSeen z r ≡ steps.judged z (setpointInUseAt z) ⌝ }
+{
+    Verdict::Tells(Figures::SolwSetpoint(SetpointFigures {
+        setpoint: z.setpoint_in_use(),
+    }))
 }
 
 // What a road brings, at a zone.

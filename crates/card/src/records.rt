@@ -4,9 +4,12 @@ use crate::answers::Refusal;
 use crate::judgements::Asked;
 use crate::judgements::Verdict;
 use crate::judgements::added;
+use crate::judgements::chosen;
 use crate::judgements::heard;
 use crate::judgements::reported;
+use crate::judgements::used;
 use zone::Command;
+use zone::Source;
 use zone::Zone;
 ghost use mathlib.Core.Path.{_≡_};
 ghost use mathlib.Core.Bool.{true};
@@ -15,7 +18,7 @@ ghost use Rattle.zone.specs.Lists.{every, some};
 ghost use Rattle.zone.specs.Zones.{zoneOtherwiseSound, zoneSound, mended, holds};
 ghost use Rattle.card.specs.Answers.{outcomeSeen};
 ghost use Rattle.card.specs.Records.{emptyRecord, zoneAt, differ, otherwiseSound, sound, findOf};
-ghost use Rattle.card.specs.Calls.{addOf, removeOf, reportOf, applyOf, allMended, oldEndsFrom, toldAs, repairSeen, repairOf};
+ghost use Rattle.card.specs.Calls.{addOf, removeOf, reportOf, applyOf, chooseSourceOf, setpointInUseOf, allMended, oldEndsFrom, toldAs, repairSeen, repairOf};
 ghost use Rattle.card.specs.Inner.{rangeAt, reachOf, verdictSeen, stored, askOf};
 
 pub struct Record {
@@ -255,6 +258,26 @@ impl Record {
         match self.reach(zone) {
             Reached::Stopped(why) => self.refused(why),
             Reached::There(z) => self.changed(zone, heard(z, asked)),
+        }
+    }
+
+    // Who sets the zone's temperature, and the voltage at its input; in every state.
+    pub fn choose_source(self, zone: usize, source: Source, millivolts: u32) -> Outcome
+        ensures { λ r. ⌜ outcomeSeen r ≡ chooseSourceOf self zone source millivolts ⌝ }
+    {
+        match self.reach(zone) {
+            Reached::Stopped(why) => self.refused(why),
+            Reached::There(z) => self.changed(zone, chosen(z, source, millivolts)),
+        }
+    }
+
+    // Answers with the zone's setpoint in use: the commanded one, or that of the voltage at its input.
+    pub fn setpoint_in_use(self, zone: usize) -> Outcome
+        ensures { λ r. ⌜ outcomeSeen r ≡ setpointInUseOf self zone ⌝ }
+    {
+        match self.reach(zone) {
+            Reached::Stopped(why) => self.refused(why),
+            Reached::There(z) => self.changed(zone, used(z)),
         }
     }
 

@@ -15,9 +15,9 @@ use Rattle.card.specs.declared.records.Record.{Record}
 use Rattle.card.specs.Answers.{Result}
 use Rattle.card.specs.Refusals.{Row, first, settled}
 use Rattle.card.specs.Records.{zoneAt, withZone}
-use Rattle.card.specs.Calls.{addOf, removeOf, reportOf, applyOf, Repair, repairOf}
+use Rattle.card.specs.Calls.{addOf, removeOf, reportOf, applyOf, chooseSourceOf, setpointInUseOf, Repair, repairOf}
 use Rattle.card.specs.Rules.{InOrder, Keeps, ExactlyWhen}
-use Rattle.card.proofs.Kept.{add-order, remove-order, report-order, apply-order, write-order, add-exactly, remove-exactly, report-exactly, apply-exactly, add-keeps, remove-keeps, report-keeps, apply-keeps}
+use Rattle.card.proofs.Kept.{add-order, remove-order, report-order, apply-order, write-order, choose-source-order, setpoint-in-use-order, add-exactly, remove-exactly, report-exactly, apply-exactly, choose-source-exactly, setpoint-in-use-exactly, add-keeps, remove-keeps, report-keeps, apply-keeps, choose-source-keeps, setpoint-in-use-keeps}
 use Rattle.card.proofs.Repairs.{repair-order, repair-exactly, repair-not-done}
 use Rattle.wire.specs.Road.{carriesCommand}
 use Rattle.wire.specs.Room.{filled}
@@ -27,7 +27,7 @@ use Rattle.roads.specs.Acknowledgements.{textRefusal, textReply, frameRefusal, 
 use Rattle.roads.specs.Calls.{Answered, said, tooSmall, parsedAt, textRows, textResult, inTextReply, answerText, zoneFound, holder, frameRows, frameResult, inFrameReply, answerFrame, composeRows, composed, composedLine, composedFrame}
 use Rattle.roads.proofs.Lengths.{either, text-fits, frame-fits, line-fits, whole-frame-fits, room-kept}
 use Rattle.roads.proofs.Exactly.{text-order, frame-order, compose-order, write-line-order, write-frame-order, text-exactly, frame-exactly, compose-line-exactly, compose-frame-exactly}
-use Rattle.session.specs.Sessions.{text, frame, composeLine, composeFrame, add, remove, report, apply, repair, Call, inRoom, quiet, answerTo, Done}
+use Rattle.session.specs.Sessions.{text, frame, composeLine, composeFrame, add, remove, report, apply, chooseSource, setpointInUse, repair, Call, inRoom, quiet, answerTo, Done}
 use Rattle.session.specs.Demands.{order, refusals, among, lent, fixed, EveryCallAnswers, WritesHaveTheWholeOrder}
 
 -- ---- the first in the printed order
@@ -63,10 +63,12 @@ in-order r (quiet (add n a range)) = add-order r n a range
 in-order r (quiet (remove n)) = remove-order r n
 in-order r (quiet (report n state actual)) = report-order r n state actual
 in-order r (quiet (apply n c)) = apply-order r n c
+in-order r (quiet (chooseSource n source millivolts)) = choose-source-order r n source millivolts
+in-order r (quiet (setpointInUse n)) = setpoint-in-use-order r n
 in-order r (quiet repair) = repair-order r
 
 first-given : (r : Record) (call : Call) → answerTo r call .said .number ≡ first (refusals r call)
-unfolding answerText answerFrame addOf removeOf reportOf applyOf repairOf composedLine composedFrame
+unfolding answerText answerFrame addOf removeOf reportOf applyOf chooseSourceOf setpointInUseOf repairOf composedLine composedFrame
 first-given r (inRoom (text n line) room) = refl
 first-given r (inRoom (frame bytes) room) = refl
 first-given r (inRoom (composeLine c) room) = refl
@@ -75,6 +77,8 @@ first-given r (quiet (add n a range)) = refl
 first-given r (quiet (remove n)) = refl
 first-given r (quiet (report n state actual)) = refl
 first-given r (quiet (apply n c)) = refl
+first-given r (quiet (chooseSource n source millivolts)) = refl
+first-given r (quiet (setpointInUse n)) = refl
 first-given r (quiet repair) = refl
 
 exactly : (r : Record) (call : Call) → ExactlyWhen (refusals r call) (answerTo r call .said .number)
@@ -86,6 +90,8 @@ exactly r (quiet (add n a range)) = add-exactly r n a range
 exactly r (quiet (remove n)) = remove-exactly r n
 exactly r (quiet (report n state actual)) = report-exactly r n state actual
 exactly r (quiet (apply n c)) = apply-exactly r n c
+exactly r (quiet (chooseSource n source millivolts)) = choose-source-exactly r n source millivolts
+exactly r (quiet (setpointInUse n)) = setpoint-in-use-exactly r n
 exactly r (quiet repair) = repair-exactly r
 
 pub whole-order : WritesHaveTheWholeOrder
@@ -141,6 +147,8 @@ refused r (quiet (add n a range)) u = kept r (addOf r n a range) (add-keeps r n 
 refused r (quiet (remove n)) u = kept r (removeOf r n) (remove-keeps r n) u
 refused r (quiet (report n state actual)) u = kept r (reportOf r n state actual) (report-keeps r n state actual) u
 refused r (quiet (apply n c)) u = kept r (applyOf r n c) (apply-keeps r n c) u
+refused r (quiet (chooseSource n source millivolts)) u = kept r (chooseSourceOf r n source millivolts) (choose-source-keeps r n source millivolts) u
+refused r (quiet (setpointInUse n)) u = kept r (setpointInUseOf r n) (setpoint-in-use-keeps r n) u
 refused r (quiet repair) u = let e = repair-not-done r u in rw (ap (λ (o : Repair). o .result .after) e, ap (λ (o : Repair). o .result .values) e)
 
 -- ---- the room keeps its length

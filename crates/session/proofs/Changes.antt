@@ -1,4 +1,4 @@
--- What a call does to a zone: nothing, or what a done write, report, removal, addition or repair sets. Assumes nothing.
+-- What a call does to a zone: nothing, or what a done write, report, removal, addition, choice of a source or repair sets. Assumes nothing.
 use Prim.Native.Nat.{ℕ}
 use mathlib.Core.Path.{_≡_, refl, sym, ap, _∙_, subst}
 use mathlib.Core.Bool.{Bool, true, false, cond}
@@ -11,27 +11,28 @@ use Rattle.zone.specs.declared.figures.Figures.the-variants.{AhueWindow}
 use Rattle.zone.specs.declared.figures.WindowFigures.{WindowFigures}
 use Rattle.zone.specs.declared.figures.Command.{Command}
 use Rattle.zone.specs.declared.figures.Command.the-variants.{Read, Write}
+use Rattle.zone.specs.declared.sources.Source.{Source}
 use Rattle.zone.specs.declared.zones.Zone.{Zone}
 use Rattle.zone.specs.Lists.{isZero}
 use Rattle.zone.specs.Zones.{newZone, emptyZone, stateNumbered, opened}
-use Rattle.zone.specs.Rules.{SetsFigures, SetsStatus}
+use Rattle.zone.specs.Rules.{SetsFigures, SetsStatus, SetsOrigin}
 use Rattle.zone.proofs.Mended.{by-window, not-shut}
 use Rattle.card.specs.declared.records.Record.{Record}
 use Rattle.card.specs.Answers.{Result}
 use Rattle.card.specs.declared.records.Found.the-variants.{At}
 use Rattle.card.specs.Records.{zoneAt, withZone, findOf}
 use Rattle.card.specs.Calls.{addOf, applyOf}
-use Rattle.card.proofs.Kept.{add-exactly, add-keeps, remove-keeps, report-keeps, apply-keeps}
+use Rattle.card.proofs.Kept.{add-exactly, add-keeps, remove-keeps, report-keeps, apply-keeps, choose-source-keeps}
 use Rattle.card.proofs.Found.{find-own}
 use Rattle.card.proofs.Repairs.{repair-done, shut-present, repair-mends}
-use Rattle.card.proofs.Sets.{remove-at-zone, report-at-zone, write-at-zone, add-sets, remove-sets, report-sets, write-sets, read-alters-nothing}
+use Rattle.card.proofs.Sets.{remove-at-zone, report-at-zone, write-at-zone, choose-source-at-zone, add-sets, remove-sets, report-sets, write-sets, choose-source-sets, read-alters-nothing, setpoint-in-use-alters-nothing}
 use Rattle.wire.specs.declared.Parsed.the-variants.{Known}
 use Rattle.line.specs.Line.{lineRead}
 use Rattle.frame.specs.declared.reading.Framed.the-variants.{Request}
 use Rattle.frame.specs.Frame.{addressIn, frameRead}
 use Rattle.roads.specs.Calls.{textResult, answerText, frameResult, answerFrame}
-use Rattle.session.specs.Sessions.{text, frame, composeLine, composeFrame, add, remove, report, apply, repair, Call, inRoom, quiet, after, Done}
-use Rattle.session.specs.Changes.{Writes, by-apply, by-line, by-frame, Reports, reported, Removes, removed, Adds, added, Repairs, repaired, WhatIsDoneIsSet, Becomes, stays, written, was-reported, was-removed, was-added, was-mended, EveryZoneBecomes}
+use Rattle.session.specs.Sessions.{text, frame, composeLine, composeFrame, add, remove, report, apply, chooseSource, setpointInUse, repair, Call, inRoom, quiet, after, Done}
+use Rattle.session.specs.Changes.{Writes, by-apply, by-line, by-frame, Reports, reported, Removes, removed, Adds, added, Chooses, chosen, Repairs, repaired, WhatIsDoneIsSet, Becomes, stays, written, was-reported, was-removed, was-added, was-chosen, was-mended, EveryZoneBecomes}
 use Rattle.session.proofs.Answering.{record-kept, by-done}
 use Rattle.session.proofs.Done.{Applied, line-is-done, frame-is-done}
 
@@ -122,6 +123,10 @@ becomes r (quiet (report m state actual)) n =
     at-zone r (quiet (report m state actual)) m n (report-keeps r m state actual .others) (λ d. was-reported state actual (reported d) (report-at-zone r m state actual d .present) (report-sets r m state actual d))
 becomes r (quiet (apply m c)) n =
     at-zone r (quiet (apply m c)) m n (apply-keeps r m c .others) (λ d. by-command r (applyOf r m c .after) (quiet (apply m c)) m c refl d (λ f e. subst (λ (x : Command). Writes m f r (quiet (apply m x))) (sym e) (by-apply (subst (λ (x : Command). Done r (quiet (apply m x))) e d))))
+becomes r (quiet (chooseSource m source millivolts)) n =
+    at-zone r (quiet (chooseSource m source millivolts)) m n (choose-source-keeps r m source millivolts .others)
+    (λ d. was-chosen source millivolts (chosen d) (choose-source-at-zone r m source millivolts d .present) (choose-source-sets r m source millivolts d))
+becomes r (quiet (setpointInUse m)) n = stays (ap (λ (s : Record). zoneAt s n) (setpoint-in-use-alters-nothing r m))
 becomes r (quiet repair) n = by-done r (quiet repair) (repair-becomes r n) (λ u. stays (ap (λ (s : Record). zoneAt s n) (record-kept r (quiet repair) u)))
 
 -- ---- what is done is set
@@ -167,8 +172,12 @@ emptied r call n (removed d) = remove-sets r n d
 made-new : (r : Record) (call : Call) (n address range : ℕ) → Adds n address range r call → zoneAt (after r call) n ≡ newZone address range
 made-new r call n address range (added d) = add-sets r n address range d
 
+origin-set : (r : Record) (call : Call) (n : ℕ) (source : Source) (millivolts : ℕ) → Chooses n source millivolts r call
+    → SetsOrigin (zoneAt r n) (record { source = source; millivolts = millivolts }) (zoneAt (after r call) n)
+origin-set r call n source millivolts (chosen d) = choose-source-sets r n source millivolts d
+
 end-set : (r : Record) (call : Call) (n : ℕ) (f : WindowFigures) → Repairs n f r call → SetsFigures (zoneAt r n) (AhueWindow (opened f)) (zoneAt (after r call) n)
 end-set r call n f (repaired d s) = repair-mends r (repair-done r d) .ends n f s
 
 pub sets : WhatIsDoneIsSet
-sets r call n = record { figures-set = figures-set r call n; status-set = status-set r call n; emptied = emptied r call n; made-new = made-new r call n; end-set = end-set r call n }
+sets r call n = record { figures-set = figures-set r call n; status-set = status-set r call n; emptied = emptied r call n; made-new = made-new r call n; origin-set = origin-set r call n; end-set = end-set r call n }

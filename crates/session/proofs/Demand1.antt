@@ -15,7 +15,7 @@ use Rattle.card.specs.declared.records.Found.{Found}
 use Rattle.card.specs.declared.records.Found.the-variants.{At, Nowhere}
 use Rattle.card.specs.Refusals.{Row, _gives_}
 use Rattle.card.specs.Records.{zoneAt, sound, findOf, noZone}
-use Rattle.card.specs.Calls.{removeOf, reportOf, applyOf}
+use Rattle.card.specs.Calls.{removeOf, reportOf, applyOf, chooseSourceOf, setpointInUseOf}
 use Rattle.card.proofs.Kept.{remove-keeps}
 use Rattle.card.proofs.Sets.{remove-at-zone, remove-sets, remove-frees}
 use Rattle.card.proofs.Scans.{found-somewhere}
@@ -24,8 +24,8 @@ use Rattle.frame.specs.Frame.{addressIn, bodyIn, shaped, checksumRight, bodyRea
 use Rattle.roads.specs.Acknowledgements.{textReply, frameReply}
 use Rattle.roads.specs.Calls.{Answered, tooSmall, parsedRows, answerText, holder, resultAt, inFrameReply, answerFrame}
 use Rattle.session.specs.Sessions.{Quiet, remove, Call, quiet, answerTo, after, Done, run, Throughout}
-use Rattle.session.specs.Changes.{Becomes, stays, written, was-reported, was-removed, was-added, was-mended, Adds, NotAdded, NotGiven}
-use Rattle.session.specs.Demands.{StaysEmpty, StaysRemoved, MeetsSilence, refusedSilently, PointsAt, applies, reports, removes, RemovedStaysGone}
+use Rattle.session.specs.Changes.{Becomes, stays, written, was-reported, was-removed, was-added, was-chosen, was-mended, Adds, NotAdded, NotGiven}
+use Rattle.session.specs.Demands.{StaysEmpty, StaysRemoved, MeetsSilence, refusedSilently, PointsAt, applies, reports, removes, chooses, asks, RemovedStaysGone}
 use Rattle.session.proofs.Changes.{becomes}
 use Rattle.session.proofs.Demand3.{stays-sound}
 
@@ -44,6 +44,7 @@ one-kept r n call e u = by-change (becomes r call n)
     by-change (was-reported state actual w p s) = absent-here e p
     by-change (was-removed w p s) = s
     by-change (was-added address range w p s) = absurd (u address range w)
+    by-change (was-chosen source millivolts w p s) = absent-here e p
     by-change (was-mended window w p s) = absent-here e p
 
 pub stays-empty : StaysEmpty
@@ -111,6 +112,7 @@ one-unheld a r call h u m = by-change (becomes r call m)
     by-change {z} (written figures w p s) = same-holder a (zoneAt r m) z (s .head) (h m)
     by-change {z} (was-reported state actual w p s) = same-holder a (zoneAt r m) z (s .head) (h m)
     by-change (was-removed w p s) = rw s
+    by-change {z} (was-chosen source millivolts w p s) = same-holder a (zoneAt r m) z (s .head) (h m)
     by-change {z} (was-mended window w p s) = same-holder a (zoneAt r m) z (s .head) (h m)
     by-change (was-added b range w p s) = rw s (by-address (eqb b a) refl)
       where
@@ -146,10 +148,12 @@ unfolding answerText textReply
 text-three r n line room s e h = rw (le-ltb (length room) 32 h, s, absent r n e)
 
 call-three : (r : Record) (n : ℕ) (call : Quiet) → sound r ≡ true → zoneAt r n ≡ emptyZone → PointsAt n call → answerTo r (quiet call) ≡ refusedSilently 3 r []
-unfolding applyOf reportOf removeOf
+unfolding applyOf reportOf removeOf chooseSourceOf setpointInUseOf
 call-three r n call s e (applies command) = rw (s, absent r n e)
 call-three r n call s e (reports state actual) = rw (s, absent r n e)
 call-three r n call s e removes = rw (s, absent r n e)
+call-three r n call s e (chooses source millivolts) = rw (s, absent r n e)
+call-three r n call s e asks = rw (s, absent r n e)
 
 pub stays-gone : RemovedStaysGone
 stays-gone r n calls room d h =

@@ -6,3 +6,5 @@ pub mod Demand1
 pub mod Demand2
 pub mod Useless
 pub mod Unsound
+pub mod Sources
+pub mod Unseen

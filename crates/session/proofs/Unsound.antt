@@ -9,19 +9,20 @@ use Rattle.zone.proofs.Tests.{never}
 use Rattle.zone.proofs.Mended.{shut-out}
 use Rattle.card.specs.declared.records.Record.{Record}
 use Rattle.card.specs.Records.{zoneAt, otherwiseSound, sound}
-use Rattle.card.specs.Calls.{addOf, removeOf, reportOf, applyOf, Repair}
-use Rattle.card.proofs.Kept.{add-exactly, remove-exactly, report-exactly, apply-exactly}
+use Rattle.card.specs.Calls.{addOf, removeOf, reportOf, applyOf, chooseSourceOf, setpointInUseOf, Repair}
+use Rattle.card.proofs.Kept.{add-exactly, remove-exactly, report-exactly, apply-exactly, choose-source-exactly}
+use Rattle.card.proofs.Sets.{setpoint-in-use-alters-nothing}
 use Rattle.card.proofs.Repairs.{repair-refused, not-otherwise, shut-unsound, repair-mends}
 use Rattle.roads.specs.Acknowledgements.{textReply, frameReply}
 use Rattle.roads.specs.Calls.{said, answerText, answerFrame}
-use Rattle.session.specs.Sessions.{text, frame, composeLine, composeFrame, add, remove, report, apply, repair, Call, inRoom, quiet, answerTo, after, Done}
+use Rattle.session.specs.Sessions.{text, frame, composeLine, composeFrame, add, remove, report, apply, chooseSource, setpointInUse, repair, Call, inRoom, quiet, answerTo, after, Done}
 use Rattle.session.specs.Demands.{lent, TestsSoundness, writeNumber, ShutGivesNine, ShutGivesTwo, RepairHelps, UnsoundStays, FaultyStays}
 use Rattle.session.proofs.Answering.{record-kept, by-done}
 use Rattle.session.proofs.Done.{line-is-done, frame-is-done}
 use Rattle.session.proofs.Demand2.{judged}
 
 unsound-two : (r : Record) (call : Call) → sound r ≡ false → TestsSoundness call → answerTo r call ≡ record { said = said 2 [] [] (lent call); after = r }
-unfolding answerText textReply answerFrame frameReply addOf removeOf reportOf applyOf
+unfolding answerText textReply answerFrame frameReply addOf removeOf reportOf applyOf chooseSourceOf setpointInUseOf
 unsound-two r (inRoom (text n line) room) s t = rw (le-ltb (length room) 32 (t .served refl), s)
 unsound-two r (inRoom (frame bytes) room) s t = rw (le-ltb (length room) 32 (t .served refl), s)
 unsound-two r (inRoom (composeLine c) room) s t = never (t .two)
@@ -30,6 +31,8 @@ unsound-two r (quiet (add n address range)) s t = rw s
 unsound-two r (quiet (remove n)) s t = rw s
 unsound-two r (quiet (report n state actual)) s t = rw s
 unsound-two r (quiet (apply n command)) s t = rw s
+unsound-two r (quiet (chooseSource n source millivolts)) s t = rw s
+unsound-two r (quiet (setpointInUse n)) s t = rw s
 unsound-two r (quiet repair) s t = absurd (t .other refl)
 
 pub shut-gives-two : ShutGivesTwo
@@ -64,6 +67,8 @@ one-stays r (quiet (add n a range)) s u = kept-if r (quiet (add n a range)) s (�
 one-stays r (quiet (remove n)) s u = kept-if r (quiet (remove n)) s (λ d. not-false (sound r) (remove-exactly r n .done .0 d 0))
 one-stays r (quiet (report n state actual)) s u = kept-if r (quiet (report n state actual)) s (λ d. not-false (sound r) (report-exactly r n state actual .done .0 d 0))
 one-stays r (quiet (apply n c)) s u = kept-if r (quiet (apply n c)) s (λ d. not-false (sound r) (apply-exactly r n c .done .0 d 0))
+one-stays r (quiet (chooseSource n source millivolts)) s u = kept-if r (quiet (chooseSource n source millivolts)) s (λ d. not-false (sound r) (choose-source-exactly r n source millivolts .done .0 d 0))
+one-stays r (quiet (setpointInUse n)) s u = setpoint-in-use-alters-nothing r n
 one-stays r (quiet repair) s u = u refl
 
 pub unsound-stays : UnsoundStays

@@ -1,4 +1,4 @@
--- What a call does to a zone: what document 01 has a done write, report, removal or addition set is set, and what document 02 has a repair mend is mended, and nothing else becomes of any zone. The hypotheses of the demands on whole sessions are said in these words.
+-- What a call does to a zone: what document 01 has a done write, report, removal or addition set is set, what document 02 has chosen of a source is set, what it has a repair mend is mended, and nothing else becomes of any zone. The hypotheses of the demands on whole sessions are said in these words.
 -- "P → ⊥" says that P does not hold, "P × Q" that both do.
 use Prim.Native.Nat.{ℕ}
 use mathlib.Core.Path.{_≡_}
@@ -10,17 +10,18 @@ use Rattle.zone.specs.declared.figures.Figures.{Figures}
 use Rattle.zone.specs.declared.figures.Figures.the-variants.{AhueWindow}
 use Rattle.zone.specs.declared.figures.WindowFigures.{WindowFigures}
 use Rattle.zone.specs.declared.figures.Command.the-variants.{Write}
+use Rattle.zone.specs.declared.sources.Source.{Source}
 use Rattle.zone.specs.declared.zones.Zone.{Zone}
 use Rattle.zone.specs.Figures.{groupOf}
 use Rattle.zone.specs.Zones.{newZone, emptyZone, stateNumbered, opened}
-use Rattle.zone.specs.Rules.{SetsFigures, SetsStatus, Shut}
+use Rattle.zone.specs.Rules.{SetsFigures, SetsStatus, SetsOrigin, Shut}
 use Rattle.card.specs.declared.records.Record.{Record}
 use Rattle.card.specs.Records.{zoneAt}
 use Rattle.wire.specs.declared.Parsed.the-variants.{Known}
 use Rattle.line.specs.Line.{lineRead}
 use Rattle.frame.specs.declared.reading.Framed.the-variants.{Request}
 use Rattle.frame.specs.Frame.{frameRead}
-use Rattle.session.specs.Sessions.{text, frame, add, remove, report, apply, repair, Call, inRoom, quiet, Done, after}
+use Rattle.session.specs.Sessions.{text, frame, add, remove, report, apply, chooseSource, repair, Call, inRoom, quiet, Done, after}
 
 -- the call is a done write of those figures to zone n, applied or by either road
 pub data Writes (n : ℕ) (figures : Figures) (r : Record) : Call → Type 0 where
@@ -39,29 +40,35 @@ pub data Removes (n : ℕ) (r : Record) : Call → Type 0 where
 pub data Adds (n address range : ℕ) (r : Record) : Call → Type 0 where
   added : Done r (quiet (add n address range)) → Adds n address range r (quiet (add n address range))
 
+-- a done choice of that source for zone n, with that input
+pub data Chooses (n : ℕ) (source : Source) (millivolts : ℕ) (r : Record) : Call → Type 0 where
+  chosen : Done r (quiet (chooseSource n source millivolts)) → Chooses n source millivolts r (quiet (chooseSource n source millivolts))
+
 -- a done repair, where zone n has a window whose begin is not below its end
 pub data Repairs (n : ℕ) (window : WindowFigures) (r : Record) : Call → Type 0 where
   repaired : Done r (quiet repair) → Shut (zoneAt r n) window → Repairs n window r (quiet repair)
 
--- what is done is set: "A done write sets exactly the figures of its group in its zone"; "A done report sets exactly the state and the actual value of its zone"; "Removing empties the zone"; a done addition gives the new zone; a repair "sets the end to begin + 1 in each such zone"
+-- what is done is set: "A done write sets exactly the figures of its group in its zone"; "A done report sets exactly the state and the actual value of its zone"; "Removing empties the zone"; a done addition gives the new zone; a choice sets the source and the input; a repair "sets the end to begin + 1 in each such zone"
 pub record Sets (r : Record) (n : ℕ) (call : Call) (z : Zone) : Type 0 where
   pub figures-set : (figures : Figures) → Writes n figures r call → SetsFigures (zoneAt r n) figures z
   pub status-set : (state actual : ℕ) → Reports n state actual r call → SetsStatus (zoneAt r n) (record { state = stateNumbered state; actual = actual }) z
   pub emptied : Removes n r call → z ≡ emptyZone
   pub made-new : (address range : ℕ) → Adds n address range r call → z ≡ newZone address range
+  pub origin-set : (source : Source) (millivolts : ℕ) → Chooses n source millivolts r call → SetsOrigin (zoneAt r n) (record { source = source; millivolts = millivolts }) z
   pub end-set : (window : WindowFigures) → Repairs n window r call → SetsFigures (zoneAt r n) (AhueWindow (opened window)) z
 
 -- `sets`, in proofs/Changes.antt: of every call and every zone
 abbrev pub WhatIsDoneIsSet : Type 0
 WhatIsDoneIsSet = (r : Record) (call : Call) (n : ℕ) → Sets r n call (zoneAt (after r call) n)
 
--- and nothing else becomes of zone n: it stays as it is or, where it is present, gets what is written or reported, or is emptied or mended; where it is absent, it may become a new zone
+-- and nothing else becomes of zone n: it stays as it is or, where it is present, gets what is written, reported or chosen, or is emptied or mended; where it is absent, it may become a new zone
 pub data Becomes (r : Record) (n : ℕ) (call : Call) (z : Zone) : Type 0 where
   stays : z ≡ zoneAt r n → Becomes r n call z
   written : (figures : Figures) → Writes n figures r call → zoneAt r n .present ≡ true → SetsFigures (zoneAt r n) figures z → Becomes r n call z
   was-reported : (state actual : ℕ) → Reports n state actual r call → zoneAt r n .present ≡ true → SetsStatus (zoneAt r n) (record { state = stateNumbered state; actual = actual }) z → Becomes r n call z
   was-removed : Removes n r call → zoneAt r n .present ≡ true → z ≡ emptyZone → Becomes r n call z
   was-added : (address range : ℕ) → Adds n address range r call → zoneAt r n .present ≡ false → z ≡ newZone address range → Becomes r n call z
+  was-chosen : (source : Source) (millivolts : ℕ) → Chooses n source millivolts r call → zoneAt r n .present ≡ true → SetsOrigin (zoneAt r n) (record { source = source; millivolts = millivolts }) z → Becomes r n call z
   was-mended : (window : WindowFigures) → Repairs n window r call → zoneAt r n .present ≡ true → SetsFigures (zoneAt r n) (AhueWindow (opened window)) z → Becomes r n call z
 
 -- `becomes`, in proofs/Changes.antt: of every call, whatever it is and whatever it is answered, and of every zone

@@ -13,6 +13,7 @@ use Rattle.zone.specs.declared.figures.Figures.the-variants.{AhueWindow}
 use Rattle.zone.specs.declared.figures.WindowFigures.{WindowFigures}
 use Rattle.zone.specs.declared.figures.Command.{Command}
 use Rattle.zone.specs.declared.figures.Command.the-variants.{Read, Write}
+use Rattle.zone.specs.declared.sources.Source.{Source}
 use Rattle.zone.specs.declared.zones.Zone.{Zone}
 use Rattle.zone.specs.Lists.{some, every}
 use Rattle.zone.specs.Table.{Kind, flag, limit, time}
@@ -22,8 +23,8 @@ use Rattle.zone.specs.Rules.{SetsFigures, Shut}
 use Rattle.card.specs.declared.records.Record.{Record}
 use Rattle.card.specs.Refusals.{Row}
 use Rattle.card.specs.Records.{zoneAt, otherwiseSound, sound}
-use Rattle.card.specs.Calls.{addRows, zoneRows, removeAt, reportAt, commandAt, repairRows}
-use Rattle.card.specs.Rules.{ExactlyWhen, numbersIn, addOrder, removeOrder, reportOrder, applyOrder, repairOrder, InOrder}
+use Rattle.card.specs.Calls.{addRows, zoneRows, removeAt, reportAt, commandAt, chooseSourceAt, setpointInUseAt, repairRows}
+use Rattle.card.specs.Rules.{ExactlyWhen, numbersIn, addOrder, removeOrder, reportOrder, applyOrder, chooseSourceOrder, setpointInUseOrder, repairOrder, InOrder}
 use Rattle.wire.specs.declared.Parsed.the-variants.{Known}
 use Rattle.wire.specs.Road.{carriesCommand}
 use Rattle.line.specs.Line.{A, S, textRoad, lineWith, lineOf, lineRead}
@@ -33,12 +34,12 @@ use Rattle.roads.specs.declared.answering.Acknowledgement.{Acknowledgement}
 use Rattle.roads.specs.declared.answering.Acknowledgement.the-variants.{Okay}
 use Rattle.roads.specs.Acknowledgements.{textOf, functionOf, textRefusal, frameRefusal}
 use Rattle.roads.specs.Calls.{Said, said, Answered, replyIn, textOrder, textRows, answerText, frameOrder, frameRows, answerFrame, composeOrder, composeRows, composedLine, composedFrame}
-use Rattle.session.specs.Sessions.{Speaking, text, frame, composeLine, composeFrame, Quiet, add, remove, report, apply, repair, Call, inRoom, quiet, answerTo, after, Done, run, Throughout}
+use Rattle.session.specs.Sessions.{Speaking, text, frame, composeLine, composeFrame, Quiet, add, remove, report, apply, chooseSource, setpointInUse, repair, Call, inRoom, quiet, answerTo, after, Done, run, Throughout}
 use Rattle.session.specs.Changes.{NotAdded, NotGiven, NotRewritten}
 
 -- ---- 1. "Any bytes, any zone number and any record may be handed to the card."
 
--- the order of a call's refusals, as document 01 prints it; of apply, as it follows from that of a line; of the repair, as document 02 has it
+-- the order of a call's refusals, as document 01 prints it; of apply, as it follows from that of a line; of the calls of document 02, as its requests have it
 abbrev pub spokenOrder : Speaking → List ℕ
 spokenOrder (text zone line) = textOrder
 spokenOrder (frame bytes) = frameOrder
@@ -50,6 +51,8 @@ quietOrder (add zone address range) = addOrder
 quietOrder (remove zone) = removeOrder
 quietOrder (report zone state actual) = reportOrder
 quietOrder (apply zone command) = applyOrder
+quietOrder (chooseSource zone source millivolts) = chooseSourceOrder
+quietOrder (setpointInUse zone) = setpointInUseOrder
 quietOrder repair = repairOrder
 
 abbrev pub order : Call → List ℕ
@@ -68,6 +71,8 @@ quietRefusals r (add zone address range) = addRows r zone address range
 quietRefusals r (remove zone) = zoneRows r zone removeAt
 quietRefusals r (report zone state actual) = zoneRows r zone (reportAt (zoneAt r zone) state actual)
 quietRefusals r (apply zone command) = zoneRows r zone (commandAt (zoneAt r zone) command)
+quietRefusals r (chooseSource zone source millivolts) = zoneRows r zone (chooseSourceAt (zoneAt r zone) source millivolts)
+quietRefusals r (setpointInUse zone) = zoneRows r zone (setpointInUseAt (zoneAt r zone))
 quietRefusals r repair = repairRows r
 
 abbrev pub refusals : Record → Call → List Row
@@ -155,12 +160,14 @@ pub data PointsAt (n : ℕ) : Quiet → Type 0 where
   applies : (command : Command) → PointsAt n (apply n command)
   reports : (state actual : ℕ) → PointsAt n (report n state actual)
   removes : PointsAt n (remove n)
+  chooses : (source : Source) (millivolts : ℕ) → PointsAt n (chooseSource n source millivolts)
+  asks : PointsAt n (setpointInUse n)
 
 pub record Gone (r : Record) (n : ℕ) (calls : List Call) (room : List ℕ) : Type 0 where
   pub by-line : Throughout (NotAdded n) (after r (quiet (remove n))) calls → (line : List ℕ) → answerText (later r n calls) n line room ≡ refusedSilently 3 (later r n calls) room
   pub by-frame : Throughout (NotGiven (zoneAt r n .address)) (after r (quiet (remove n))) calls
       → (bytes : List ℕ) → shaped bytes ≡ true → addressIn bytes ≡ zoneAt r n .address → answerFrame (later r n calls) bytes room ≡ refusedSilently 5 (later r n calls) room
-  -- applying a command, reporting, removing once more
+  -- applying a command, reporting, removing once more, choosing the source, asking for the setpoint in use
   pub by-call : Throughout (NotAdded n) (after r (quiet (remove n))) calls → (call : Quiet) → PointsAt n call → answerTo (later r n calls) (quiet call) ≡ refusedSilently 3 (later r n calls) []
 
 -- `stays-gone`, in proofs/Demand1.antt

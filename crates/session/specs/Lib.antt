@@ -2,3 +2,4 @@
 pub mod Sessions
 pub mod Changes
 pub mod Demands
+pub mod Sources

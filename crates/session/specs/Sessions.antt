@@ -3,9 +3,10 @@ use Prim.Native.Nat.{ℕ}
 use mathlib.Core.Path.{_≡_}
 use mathlib.Core.List.{List, [], _∷_}
 use Rattle.zone.specs.declared.figures.Command.{Command}
+use Rattle.zone.specs.declared.sources.Source.{Source}
 use Rattle.card.specs.declared.records.Record.{Record}
 use Rattle.card.specs.Answers.{Result}
-use Rattle.card.specs.Calls.{addOf, removeOf, reportOf, applyOf, repairOf}
+use Rattle.card.specs.Calls.{addOf, removeOf, reportOf, applyOf, chooseSourceOf, setpointInUseOf, repairOf}
 use Rattle.roads.specs.Calls.{Answered, said, answerText, answerFrame, composedLine, composedFrame}
 
 -- a call that is lent a room, and may reply in it
@@ -21,6 +22,8 @@ pub data Quiet : Type 0 where
   remove : ℕ → Quiet
   report : ℕ → ℕ → ℕ → Quiet
   apply : ℕ → Command → Quiet
+  chooseSource : ℕ → Source → ℕ → Quiet
+  setpointInUse : ℕ → Quiet
   repair : Quiet
 
 -- a call that document 01 or a request of document 02 names, with its arguments and, where it has one, the room that is lent
@@ -40,6 +43,8 @@ resultOf r (add zone address range) = addOf r zone address range
 resultOf r (remove zone) = removeOf r zone
 resultOf r (report zone state actual) = reportOf r zone state actual
 resultOf r (apply zone command) = applyOf r zone command
+resultOf r (chooseSource zone source millivolts) = chooseSourceOf r zone source millivolts
+resultOf r (setpointInUse zone) = setpointInUseOf r zone
 resultOf r repair = repairOf r .result
 
 abbrev pub answerTo : Record → Call → Answered

@@ -5,3 +5,4 @@ pub mod Made
 pub mod Written
 pub mod Sound
 pub mod Mended
+pub mod InUse

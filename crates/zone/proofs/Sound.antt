@@ -1,4 +1,4 @@
--- Which zones are sound: the new and the empty one, and a sound one after a write or a report in range. An absent one is the empty zone. Assumes nothing.
+-- Which zones are sound: the new and the empty one, and a sound one after a write, a report or a choice of the source in range. An absent one is the empty zone. Assumes nothing.
 use Prim.Native.Nat.{ℕ}
 use mathlib.Core.Path.{_≡_, refl, _∙_}
 use mathlib.Core.Bool.{Bool, true, false, and-true}
@@ -10,13 +10,17 @@ use Rattle.zone.specs.declared.figures.Figures.the-variants.{AhueDeadlin
 use Rattle.zone.specs.declared.status.State.{State}
 use Rattle.zone.specs.declared.status.State.the-variants.{Off, On, Calibration, Error}
 use Rattle.zone.specs.declared.status.Status.{Status}
+use Rattle.zone.specs.declared.sources.Source.{Source}
+use Rattle.zone.specs.declared.sources.Source.the-variants.{Interface, Voltage}
+use Rattle.zone.specs.declared.sources.Origin.{Origin}
 use Rattle.zone.specs.declared.zones.Watch.{Watch}
 use Rattle.zone.specs.declared.zones.Watch.the-variants.{Deadline, Window}
 use Rattle.zone.specs.declared.zones.Settings.{Settings}
 use Rattle.zone.specs.declared.zones.Zone.{Zone}
 use Rattle.zone.specs.Lists.{isZero}
 use Rattle.zone.specs.Figures.{eachInRange, opens, inRange, allZero}
-use Rattle.zone.specs.Zones.{newZone, emptyZone, watchFigures, figuresOf, addressInRange, rangeKnown, actualInRange, isOff, isDeadline, groupsEachInRange, presentOtherwiseSound, groupsZero, holdsNothing, zoneOtherwiseSound, windowOpens, zoneSound, withStatus, withFigures}
+use Rattle.zone.specs.Sources.{inputInRange, firstOrigin, isInterface, isFirst}
+use Rattle.zone.specs.Zones.{newZone, emptyZone, watchFigures, figuresOf, addressInRange, rangeKnown, actualInRange, isOff, isDeadline, groupsEachInRange, presentOtherwiseSound, groupsZero, holdsNothing, zoneOtherwiseSound, windowOpens, zoneSound, withStatus, withOrigin, withFigures}
 use Rattle.zone.proofs.Tests.{never, both, and-l, and-r}
 
 -- the parts of a present zone's soundness, one by one, by how a group's figures are judged
@@ -24,6 +28,7 @@ pub record FitBy (test : ℕ → Figures → Bool) (z : Zone) : Type 0 where
   pub address : addressInRange (z .address) ≡ true
   pub range : rangeKnown (z .range) ≡ true
   pub actual : actualInRange (z .status .actual) ≡ true
+  pub input : inputInRange (z .origin .millivolts) ≡ true
   pub ahue : test (z .range) (figuresOf z Ahue) ≡ true
   pub hzbg : test (z .range) (figuresOf z Hzbg) ≡ true
   pub rrue : test (z .range) (figuresOf z Rrue) ≡ true
@@ -45,6 +50,7 @@ otherwise-fits z p s =
       address = search (and-l, and-r);
       range = search (and-l, and-r);
       actual = search (and-l, and-r);
+      input = search (and-l, and-r);
       ahue = search and-l;
       hzbg = search (and-l, and-r);
       rrue = search (and-l, and-r);
@@ -53,7 +59,7 @@ otherwise-fits z p s =
 
 pub otherwise-fitting : (z : Zone) → z .present ≡ true → OtherwiseFit z → zoneOtherwiseSound z ≡ true
 unfolding zoneOtherwiseSound
-otherwise-fitting z p k = rw p (rw (k .address, k .range, k .actual, k .ahue, k .hzbg, k .rrue, k .solw))
+otherwise-fitting z p k = rw p (rw (k .address, k .range, k .actual, k .input, k .ahue, k .hzbg, k .rrue, k .solw))
 
 -- ---- the rule
 
@@ -88,6 +94,7 @@ fits z p s =
       address = k .address;
       range = k .range;
       actual = k .actual;
+      input = k .input;
       ahue = range-kept (z .range) (figuresOf z Ahue) (parts .1) ∙ k .ahue;
       hzbg = range-kept (z .range) (figuresOf z Hzbg) refl ∙ k .hzbg;
       rrue = range-kept (z .range) (figuresOf z Rrue) refl ∙ k .rrue;
@@ -103,6 +110,7 @@ fitting z p k =
       address = k .address;
       range = k .range;
       actual = k .actual;
+      input = k .input;
       ahue = ahue .0;
       hzbg = in-range-parts (z .range) (figuresOf z Hzbg) (k .hzbg) .0;
       rrue = in-range-parts (z .range) (figuresOf z Rrue) (k .rrue) .0;
@@ -121,7 +129,12 @@ new-sound address range a r = rw (a, r, leb·zero range)
 pub status-sound : (z : Zone) (s : Status) → z .present ≡ true → zoneSound z ≡ true → actualInRange (s .actual) ≡ true → zoneSound (withStatus z s) ≡ true
 status-sound z s p h a =
     let k = fits z p h in
-    fitting (withStatus z s) p (record { address = k .address; range = k .range; actual = a; ahue = k .ahue; hzbg = k .hzbg; rrue = k .rrue; solw = k .solw })
+    fitting (withStatus z s) p (record { address = k .address; range = k .range; actual = a; input = k .input; ahue = k .ahue; hzbg = k .hzbg; rrue = k .rrue; solw = k .solw })
+
+pub origin-sound : (z : Zone) (o : Origin) → z .present ≡ true → zoneSound z ≡ true → inputInRange (o .millivolts) ≡ true → zoneSound (withOrigin z o) ≡ true
+origin-sound z o p h i =
+    let k = fits z p h in
+    fitting (withOrigin z o) p (record { address = k .address; range = k .range; actual = k .actual; input = i; ahue = k .ahue; hzbg = k .hzbg; rrue = k .rrue; solw = k .solw })
 
 pub figures-sound : (z : Zone) (f : Figures) → z .present ≡ true → zoneSound z ≡ true → inRange (z .range) f ≡ true → zoneSound (withFigures z f) ≡ true
 figures-sound z f p h e = by-form f e
@@ -130,11 +143,11 @@ figures-sound z f p h e = by-form f e
     k = fits z p h
 
     by-form : (f : Figures) → inRange (z .range) f ≡ true → zoneSound (withFigures z f) ≡ true
-    by-form (AhueDeadline f) e = fitting _ p (record { address = k .address; range = k .range; actual = k .actual; ahue = e; hzbg = k .hzbg; rrue = k .rrue; solw = k .solw })
-    by-form (AhueWindow f) e = fitting _ p (record { address = k .address; range = k .range; actual = k .actual; ahue = e; hzbg = k .hzbg; rrue = k .rrue; solw = k .solw })
-    by-form (HzbgLimit f) e = fitting _ p (record { address = k .address; range = k .range; actual = k .actual; ahue = k .ahue; hzbg = e; rrue = k .rrue; solw = k .solw })
-    by-form (RrueReference f) e = fitting _ p (record { address = k .address; range = k .range; actual = k .actual; ahue = k .ahue; hzbg = k .hzbg; rrue = e; solw = k .solw })
-    by-form (SolwSetpoint f) e = fitting _ p (record { address = k .address; range = k .range; actual = k .actual; ahue = k .ahue; hzbg = k .hzbg; rrue = k .rrue; solw = e })
+    by-form (AhueDeadline f) e = fitting _ p (record { address = k .address; range = k .range; actual = k .actual; input = k .input; ahue = e; hzbg = k .hzbg; rrue = k .rrue; solw = k .solw })
+    by-form (AhueWindow f) e = fitting _ p (record { address = k .address; range = k .range; actual = k .actual; input = k .input; ahue = e; hzbg = k .hzbg; rrue = k .rrue; solw = k .solw })
+    by-form (HzbgLimit f) e = fitting _ p (record { address = k .address; range = k .range; actual = k .actual; input = k .input; ahue = k .ahue; hzbg = e; rrue = k .rrue; solw = k .solw })
+    by-form (RrueReference f) e = fitting _ p (record { address = k .address; range = k .range; actual = k .actual; input = k .input; ahue = k .ahue; hzbg = k .hzbg; rrue = e; solw = k .solw })
+    by-form (SolwSetpoint f) e = fitting _ p (record { address = k .address; range = k .range; actual = k .actual; input = k .input; ahue = k .ahue; hzbg = k .hzbg; rrue = k .rrue; solw = e })
 
 -- ---- an absent zone that is sound is the empty zone
 
@@ -167,6 +180,16 @@ settings-zero s l r p =
     let setpoint : s .setpoint .setpoint ≡ 0 = zero _ (search and-l) in
     λ i. record { limit = record { time = time i }; reference = record { flag = flag i; lower = lower i; upper = upper i }; setpoint = record { setpoint = setpoint i } }
 
+by-interface : (s : Source) → isInterface s ≡ true → s ≡ Interface
+by-interface Interface e = refl
+by-interface Voltage e = never e
+
+origin-first : (o : Origin) → isFirst o ≡ true → o ≡ firstOrigin
+origin-first o e =
+    let source : o .source ≡ Interface = by-interface _ (search and-l) in
+    let millivolts : o .millivolts ≡ 0 = zero _ (search and-r) in
+    λ i. record { source = source i; millivolts = millivolts i }
+
 pub otherwise-empty : (z : Zone) → z .present ≡ false → zoneOtherwiseSound z ≡ true → z ≡ emptyZone
 unfolding zoneOtherwiseSound
 otherwise-empty z p s =
@@ -176,9 +199,10 @@ otherwise-empty z p s =
     let range : z .range ≡ 0 = zero _ (search (and-l, and-r)) in
     let actual : z .status .actual ≡ 0 = zero _ (search (and-l, and-r)) in
     let state : z .status .state ≡ Off = off _ (search (and-l, and-r)) in
-    let watch = watch-zero (z .watch) (search and-r) (search and-l) in
+    let watch = watch-zero (z .watch) (search (and-l, and-r)) (search and-l) in
     let settings = settings-zero (z .settings) (search (and-l, and-r)) (search (and-l, and-r)) (search (and-l, and-r)) in
-    λ i. record { present = p i; address = address i; range = range i; status = record { state = state i; actual = actual i }; watch = watch i; settings = settings i }
+    let origin = origin-first (z .origin) (search and-r) in
+    λ i. record { present = p i; address = address i; range = range i; status = record { state = state i; actual = actual i }; watch = watch i; settings = settings i; origin = origin i }
 
 pub absent-empty : (z : Zone) → z .present ≡ false → zoneSound z ≡ true → z ≡ emptyZone
 absent-empty z p s = otherwise-empty z p (sound-zone-parts z s .0)

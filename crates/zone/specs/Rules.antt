@@ -1,5 +1,5 @@
--- Document 01's rules of what is written, as statements about a zone before and after. proofs/Written.antt proves them of the definitions: sets-figures and sets-status. At the end those of document 02, Req 06.
-use Prim.Native.Nat.{ℕ, _≤_}
+-- Document 01's rules of what is written, as statements about a zone before and after. proofs/Written.antt proves them of the definitions: sets-figures, sets-status and, of document 02, Req 08, sets-origin. At the end those of Req 06, and how Req 08 rounds.
+use Prim.Native.Nat.{ℕ, _+_, _*_, _≤_, _<_}
 use mathlib.Core.Path.{_≡_}
 use mathlib.Core.Logic.{_↔_}
 use mathlib.Core.Bool.{false}
@@ -8,9 +8,11 @@ use Rattle.zone.specs.declared.figures.Figures.{Figures}
 use Rattle.zone.specs.declared.figures.Figures.the-variants.{AhueWindow}
 use Rattle.zone.specs.declared.figures.WindowFigures.{WindowFigures}
 use Rattle.zone.specs.declared.status.Status.{Status}
+use Rattle.zone.specs.declared.sources.Origin.{Origin}
 use Rattle.zone.specs.declared.zones.Watch.the-variants.{Window}
 use Rattle.zone.specs.declared.zones.Zone.{Zone}
 use Rattle.zone.specs.Figures.{groupOf, eachInRange, opens, inRange}
+use Rattle.zone.specs.Sources.{byVoltage}
 use Rattle.zone.specs.Zones.{figuresOf, zoneOtherwiseSound, zoneSound}
 
 -- the zone stays present, or absent, with its address and its temperature range
@@ -23,6 +25,7 @@ pub record SameHead (before after : Zone) : Type 0 where
 pub record SetsFigures (before : Zone) (figures : Figures) (after : Zone) : Type 0 where
   pub head : SameHead before after
   pub status : after .status ≡ before .status
+  pub origin : after .origin ≡ before .origin
   pub itsGroup : figuresOf after (groupOf figures) ≡ figures
   pub otherGroups : (group : Group) → (group ≡ groupOf figures → ⊥) → figuresOf after group ≡ figuresOf before group
 
@@ -30,6 +33,14 @@ pub record SetsFigures (before : Zone) (figures : Figures) (after : Zone) : Type
 pub record SetsStatus (before : Zone) (status : Status) (after : Zone) : Type 0 where
   pub head : SameHead before after
   pub reported : after .status ≡ status
+  pub origin : after .origin ≡ before .origin
+  pub groups : (group : Group) → figuresOf after group ≡ figuresOf before group
+
+-- "One call sets them" (document 02, Req 08): the source and the input, and nothing else of the zone
+pub record SetsOrigin (before : Zone) (origin : Origin) (after : Zone) : Type 0 where
+  pub head : SameHead before after
+  pub status : after .status ≡ before .status
+  pub chosen : after .origin ≡ origin
   pub groups : (group : Group) → figuresOf after group ≡ figuresOf before group
 
 -- zone z has that window, and it is "a window with begin not below end" (document 02, Req 06)
@@ -47,3 +58,7 @@ RangeAsBefore = (range : ℕ) (figures : Figures) → ((window : WindowFigures) 
 
 abbrev pub SoundAsBefore : Type 0
 SoundAsBefore = (z : Zone) → ((window : WindowFigures) → Shut z window → ⊥) → zoneSound z ≡ zoneOtherwiseSound z
+
+-- "millivolts times range divided by 10,000, rounded down" (document 02, Req 08): the voltage comes to so many ten-thousandths of the range, and to less than one degree more. `rounded-down`, in proofs/InUse.antt
+abbrev pub RoundedDown : Type 0
+RoundedDown = (millivolts range : ℕ) → (byVoltage millivolts range * 10000 ≤ millivolts * range) × (millivolts * range < (byVoltage millivolts range + 1) * 10000)

@@ -10,6 +10,7 @@ use Rattle.zone.specs.declared.figures.Figures.the-variants.{AhueDeadlin
 use Rattle.zone.specs.declared.status.State.{State}
 use Rattle.zone.specs.declared.status.State.the-variants.{Off, On, Calibration, Error}
 use Rattle.zone.specs.declared.status.Status.{Status}
+use Rattle.zone.specs.declared.sources.Origin.{Origin}
 use Rattle.zone.specs.declared.zones.Watch.{Watch}
 use Rattle.zone.specs.declared.zones.Watch.the-variants.{Deadline, Window}
 use Rattle.zone.specs.declared.zones.Settings.{Settings}
@@ -17,8 +18,9 @@ use Rattle.zone.specs.declared.zones.Zone.{Zone}
 use Rattle.zone.specs.Lists.{within, isZero, every}
 use Rattle.zone.specs.Table.{everyGroup}
 use Rattle.zone.specs.Figures.{eachInRange, opens, allZero}
+use Rattle.zone.specs.Sources.{inputInRange, firstOrigin, isFirst}
 
--- "A new zone is Off with actual value 0, watch off (deadline form, lower 10, upper 10, time 10), heating limit 0, reference watch off with 10 and 10, setpoint 0"
+-- "A new zone is Off with actual value 0, watch off (deadline form, lower 10, upper 10, time 10), heating limit 0, reference watch off with 10 and 10, setpoint 0"; and by document 02, Req 08, "source interface and 0 mV"
 abbrev pub newZone : ℕ → ℕ → Zone
 newZone address range = record {
   present = true;
@@ -27,9 +29,10 @@ newZone address range = record {
   status = record { state = Off; actual = 0 };
   watch = Deadline (record { flag = 0; lower = 10; upper = 10; time = 10 });
   settings = record { limit = record { time = 0 }; reference = record { flag = 0; lower = 10; upper = 10 }; setpoint = record { setpoint = 0 } };
+  origin = firstOrigin;
 }
 
--- "An absent zone holds nothing: all its numbers are 0, its state is Off, its watch a deadline"
+-- "An absent zone holds nothing: all its numbers are 0, its state is Off, its watch a deadline"; its source is interface (Req 08)
 abbrev pub emptyZone : Zone
 emptyZone = record {
   present = false;
@@ -38,6 +41,7 @@ emptyZone = record {
   status = record { state = Off; actual = 0 };
   watch = Deadline (record { flag = 0; lower = 0; upper = 0; time = 0 });
   settings = record { limit = record { time = 0 }; reference = record { flag = 0; lower = 0; upper = 0 }; setpoint = record { setpoint = 0 } };
+  origin = firstOrigin;
 }
 
 -- ---- what is read
@@ -74,9 +78,9 @@ actualInRange actual = leb actual 999
 abbrev pub groupsEachInRange : Zone → Bool
 groupsEachInRange z = every (λ group. eachInRange (z .range) (figuresOf z group)) everyGroup
 
--- "every figure of every present zone lies in its range", each judged by its own; of the state there is nothing to test, since the type has just the four
+-- "every figure of every present zone lies in its range", each judged by its own, and so does its input (Req 08); of the state and the source there is nothing to test, since the types have just those
 abbrev pub presentOtherwiseSound : Zone → Bool
-presentOtherwiseSound z = addressInRange (z .address) && rangeKnown (z .range) && actualInRange (z .status .actual) && groupsEachInRange z
+presentOtherwiseSound z = addressInRange (z .address) && rangeKnown (z .range) && actualInRange (z .status .actual) && inputInRange (z .origin .millivolts) && groupsEachInRange z
 
 abbrev pub isOff : State → Bool
 isOff Off = true
@@ -93,9 +97,9 @@ groupsZero z = every (λ group. allZero (figuresOf z group)) everyGroup
 
 -- "An absent zone holds nothing", as a test: an absent zone that passes it is emptyZone (absent-empty, in proofs/Sound.antt)
 abbrev pub holdsNothing : Zone → Bool
-holdsNothing z = isZero (z .address) && isZero (z .range) && isZero (z .status .actual) && groupsZero z && isOff (z .status .state) && isDeadline (z .watch)
+holdsNothing z = isZero (z .address) && isZero (z .range) && isZero (z .status .actual) && groupsZero z && isOff (z .status .state) && isDeadline (z .watch) && isFirst (z .origin)
 
--- what document 01 asks of each zone of a sound record: soundness without the rule that a window opens before it closes
+-- what document 01 asks of each zone of a sound record, with its source and input (Req 08): soundness without the rule that a window opens before it closes
 unfoldable pub zoneOtherwiseSound : Zone → Bool
 zoneOtherwiseSound z = cond (z .present) (presentOtherwiseSound z) (holdsNothing z)
 
@@ -114,13 +118,16 @@ abbrev pub stateNumbered : ℕ → State
 stateNumbered n = cond (eqb n 0) Off (cond (eqb n 1) On (cond (eqb n 2) Calibration Error))
 
 abbrev pub withStatus : Zone → Status → Zone
-withStatus z status = record { present = z .present; address = z .address; range = z .range; status = status; watch = z .watch; settings = z .settings }
+withStatus z status = record { present = z .present; address = z .address; range = z .range; status = status; watch = z .watch; settings = z .settings; origin = z .origin }
 
 abbrev pub withWatch : Zone → Watch → Zone
-withWatch z watch = record { present = z .present; address = z .address; range = z .range; status = z .status; watch = watch; settings = z .settings }
+withWatch z watch = record { present = z .present; address = z .address; range = z .range; status = z .status; watch = watch; settings = z .settings; origin = z .origin }
 
 abbrev pub withSettings : Zone → Settings → Zone
-withSettings z settings = record { present = z .present; address = z .address; range = z .range; status = z .status; watch = z .watch; settings = settings }
+withSettings z settings = record { present = z .present; address = z .address; range = z .range; status = z .status; watch = z .watch; settings = settings; origin = z .origin }
+
+abbrev pub withOrigin : Zone → Origin → Zone
+withOrigin z origin = record { present = z .present; address = z .address; range = z .range; status = z .status; watch = z .watch; settings = z .settings; origin = origin }
 
 -- the zone with the figures of one group set
 abbrev pub withFigures : Zone → Figures → Zone

@@ -2,8 +2,9 @@
 //
 // A zone goes in by value and comes back by value; no function here knows of another zone. What is
 // right is written in specs/: Table.antt has document 01's table of command groups, Figures.antt when a
-// group's figures are in range, Zones.antt the zone itself.
+// group's figures are in range, Sources.antt who sets the temperature, Zones.antt the zone itself.
 mod figures;
+mod sources;
 mod status;
 mod zones;
 
@@ -16,6 +17,9 @@ pub use figures::Ranged;
 pub use figures::ReferenceFigures;
 pub use figures::SetpointFigures;
 pub use figures::WindowFigures;
+pub use sources::Origin;
+pub use sources::Source;
+pub use sources::input_in_range;
 pub use status::State;
 pub use status::Status;
 pub use status::actual_in_range;

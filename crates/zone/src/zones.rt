@@ -6,6 +6,10 @@ use crate::figures::LimitFigures;
 use crate::figures::ReferenceFigures;
 use crate::figures::SetpointFigures;
 use crate::figures::WindowFigures;
+use crate::sources::Origin;
+use crate::sources::Source;
+use crate::sources::by_voltage;
+use crate::sources::input_in_range;
 use crate::status::State;
 use crate::status::Status;
 use crate::status::actual_in_range;
@@ -13,7 +17,8 @@ ghost use mathlib.Core.Path.{_≡_};
 ghost use mathlib.Core.Bool.{true};
 ghost use Prim.Native.Nat.{_<_};
 ghost use Rattle.zone.specs.Inner.{beginOf};
-ghost use Rattle.zone.specs.Zones.{watchFigures, figuresOf, newZone, emptyZone, addressInRange, rangeKnown, groupsEachInRange, presentOtherwiseSound, isDeadline, groupsZero, holdsNothing, zoneOtherwiseSound, windowOpens, zoneSound, holds, withStatus, withWatch, withSettings, withFigures, openedWatch, mended, endOf};
+ghost use Rattle.zone.specs.Sources.{setpointInUse};
+ghost use Rattle.zone.specs.Zones.{watchFigures, figuresOf, newZone, emptyZone, addressInRange, rangeKnown, groupsEachInRange, presentOtherwiseSound, isDeadline, groupsZero, holdsNothing, zoneOtherwiseSound, windowOpens, zoneSound, holds, withStatus, withWatch, withSettings, withOrigin, withFigures, openedWatch, mended, endOf};
 
 // The heating watch: a deadline or a window, each with its own figures.
 pub enum Watch {
@@ -35,6 +40,7 @@ pub struct Zone {
     pub status: Status,
     pub watch: Watch,
     pub settings: Settings,
+    pub origin: Origin,
 }
 
 impl Watch {
@@ -123,6 +129,10 @@ impl Zone {
                 },
                 setpoint: SetpointFigures { setpoint: 0 },
             },
+            origin: Origin {
+                source: Source::Interface,
+                millivolts: 0,
+            },
         }
     }
 
@@ -152,6 +162,10 @@ impl Zone {
                     upper: 0,
                 },
                 setpoint: SetpointFigures { setpoint: 0 },
+            },
+            origin: Origin {
+                source: Source::Interface,
+                millivolts: 0,
             },
         }
     }
@@ -223,6 +237,7 @@ impl Zone {
     {
         let status = self.status;
         let settings = self.settings;
+        let origin = self.origin;
         Zone {
             present: self.present,
             address: self.address,
@@ -230,6 +245,7 @@ impl Zone {
             status: status,
             watch: watch,
             settings: settings,
+            origin: origin,
         }
     }
 
@@ -238,6 +254,29 @@ impl Zone {
     {
         self.settings = settings;
         self
+    }
+
+    // The zone with its source and its input set.
+    pub fn with_origin(mut self, origin: Origin) -> Zone
+        ensures { λ r. ⌜ r ≡ withOrigin self origin ⌝ }
+    {
+        self.origin = origin;
+        self
+    }
+
+    // The setpoint in use, of a zone of a sound record: the commanded one, or that of the voltage.
+    pub fn setpoint_in_use(self) -> u32
+        requires { ⌜ zoneSound self ≡ true ⌝ }
+        ensures { λ r. ⌜ r ≡ setpointInUse self ⌝ }
+    {
+        let settings = self.settings;
+        let setpoint = settings.setpoint;
+        let origin = self.origin;
+        let source = origin.source;
+        match source {
+            Source::Interface => setpoint.setpoint,
+            Source::Voltage => by_voltage(origin.millivolts, self.range),
+        }
     }
 
     // The zone's window, if it has one, opens before it closes.
@@ -290,9 +329,11 @@ impl Zone {
         ensures { λ r. ⌜ r ≡ presentOtherwiseSound self ⌝ }
     {
         let status = self.status;
+        let origin = self.origin;
         address_in_range(self.address)
             & range_known(self.range)
             & actual_in_range(status.actual)
+            & input_in_range(origin.millivolts)
             & self.groups_each_in_range()
     }
 
@@ -312,12 +353,14 @@ impl Zone {
         let status = self.status;
         let state = status.state;
         let watch = self.watch;
+        let origin = self.origin;
         (self.address == 0)
             & (self.range == 0)
             & (status.actual == 0)
             & self.groups_zero()
             & state.is_off()
             & watch.is_deadline()
+            & origin.is_first()
     }
 
     fn groups_zero(self) -> bool
