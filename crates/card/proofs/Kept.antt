@@ -21,7 +21,7 @@ use Rattle.zone.proofs.Written.{sets-figures}
 use Rattle.card.specs.declared.records.Record.{Record}
 use Rattle.card.specs.Refusals.{Row, first, settled}
 use Rattle.card.specs.Records.{zoneAt, withZone, sound}
-use Rattle.card.specs.Calls.{addRows, addOf, Judgement, zoneRows, removeAt, removeOf, reportAt, reportOf, commandAt, applyOf, chooseSourceAt, chooseSourceOf, degrees, setpointInUseAt, setpointInUseOf}
+use Rattle.card.specs.Calls.{addRows, addOf, Judgement, zoneRows, removeAt, removeOf, reportAt, reportOf, commandAt, applyOf, chooseSourceAt, chooseSourceOf, setpointTold, setpointInUseAt, setpointInUseOf}
 use Rattle.card.specs.Rules.{Keeps, ExactlyWhen, rowAt, numbersIn, addOrder, removeOrder, reportOrder, applyOrder, chooseSourceOrder, setpointInUseOrder, InOrder}
 use Rattle.card.proofs.Rows.{apart, exactly}
 use Rattle.card.proofs.Inner.{same-zone}
@@ -167,7 +167,7 @@ telling-keeps r n rows values = keeps r n rows values (zoneAt r n) (λ e s. rw (
 
 pub setpoint-in-use-keeps : (r : Record) (n : ℕ) → Keeps r n (setpointInUseOf r n)
 unfolding setpointInUseOf
-setpoint-in-use-keeps r n = telling-keeps r n (zoneRows r n (setpointInUseAt (zoneAt r n))) (degrees (setpointInUse (zoneAt r n)))
+setpoint-in-use-keeps r n = telling-keeps r n (zoneRows r n (setpointInUseAt (zoneAt r n))) (setpointTold (setpointInUse (zoneAt r n)))
 
 pub choose-source-keeps : (r : Record) (n : ℕ) (source : Source) (millivolts : ℕ) → Keeps r n (chooseSourceOf r n source millivolts)
 unfolding chooseSourceOf

@@ -19,9 +19,10 @@ use Rattle.zone.specs.Rules.{SetsFigures, SetsStatus, SetsOrigin}
 use Rattle.zone.proofs.Sound.{fits}
 use Rattle.zone.proofs.Written.{sets-figures, sets-status, sets-origin}
 use Rattle.card.specs.declared.records.Record.{Record}
+use Rattle.card.specs.Answers.{Result}
 use Rattle.card.specs.Refusals.{Row, first, settled}
 use Rattle.card.specs.Records.{zoneAt, withZone, heldIn, sound}
-use Rattle.card.specs.Calls.{addRows, addOf, Judgement, zoneRows, atZone, removeAt, removeOf, reportAt, reportOf, commandAt, applyOf, chooseSourceAt, chooseSourceOf, degrees, setpointInUseAt, setpointInUseOf}
+use Rattle.card.specs.Calls.{addRows, addOf, Judgement, zoneRows, atZone, removeAt, removeOf, reportAt, reportOf, telling, commandAt, applyOf, chooseSourceAt, chooseSourceOf, setpointTold, setpointInUseAt, setpointInUseOf}
 use Rattle.card.specs.Rules.{Frees}
 use Rattle.card.proofs.Inner.{same-zone}
 use Rattle.card.proofs.Storing.{sound-parts, zone-sound, freed}
@@ -109,19 +110,26 @@ read-alters-nothing r n group = nothing-altered r n (zoneRows r n (commandAt (zo
 
 pub setpoint-in-use-alters-nothing : (r : Record) (n : ℕ) → setpointInUseOf r n .after ≡ r
 unfolding setpointInUseOf
-setpoint-in-use-alters-nothing r n = nothing-altered r n (zoneRows r n (setpointInUseAt (zoneAt r n))) (degrees (setpointInUse (zoneAt r n)))
+setpoint-in-use-alters-nothing r n = nothing-altered r n (zoneRows r n (setpointInUseAt (zoneAt r n))) (setpointTold (setpointInUse (zoneAt r n)))
+
+-- a zone that only tells, of a sound record: the whole of it
+telling-done : (r : Record) (n : ℕ) (values : List Figures) → sound r ≡ true → n < 16 → zoneAt r n .present ≡ true
+    → atZone r n (telling (zoneAt r n) values) ≡ record { number = 0; values = values; after = r }
+telling-done r n values s l p = rw (s, lt-leb 16 n l, p, same-zone r n)
 
 -- a present zone of a sound record tells its figures
 pub read-tells : (r : Record) (n : ℕ) (group : Group) → sound r ≡ true → n < 16 → zoneAt r n .present ≡ true
     → (applyOf r n (Read group) .number ≡ 0) × (applyOf r n (Read group) .values ≡ figuresOf (zoneAt r n) group ∷ [])
 unfolding applyOf
-read-tells r n group s l p = (rw (s, lt-leb 16 n l, p), rw (s, lt-leb 16 n l, p))
+read-tells r n group s l p =
+    let t = telling-done r n (figuresOf (zoneAt r n) group ∷ []) s l p in
+    (ap (λ (o : Result Record). o .number) t, ap (λ (o : Result Record). o .values) t)
 
 -- and its setpoint in use
 pub setpoint-in-use-tells : (r : Record) (n : ℕ) → sound r ≡ true → n < 16 → zoneAt r n .present ≡ true
-    → (setpointInUseOf r n .number ≡ 0) × (setpointInUseOf r n .values ≡ degrees (setpointInUse (zoneAt r n)))
+    → setpointInUseOf r n ≡ record { number = 0; values = setpointTold (setpointInUse (zoneAt r n)); after = r }
 unfolding setpointInUseOf
-setpoint-in-use-tells r n s l p = (rw (s, lt-leb 16 n l, p), rw (s, lt-leb 16 n l, p))
+setpoint-in-use-tells r n s l p = telling-done r n (setpointTold (setpointInUse (zoneAt r n))) s l p
 
 -- ---- one call after the other
 
@@ -150,7 +158,7 @@ remove-frees r n e =
     let address = zoneAt r n .address in
     let k = remove-at-zone r n e in
     let s = remove-keeps r n .stays (k .sound-record) in
-    let in-range = fits (zoneAt r n) (k .present) (zone-sound r n (k .sound-record)) .address in
+    let in-range = fits (zoneAt r n) (k .present) (zone-sound r n (k .sound-record)) .own .address in
     let free : heldIn (gone .zones) address ≡ false = rw (remove-after r n e) (freed (r .zones) n (sound-parts r (k .sound-record) .addresses) (k .present)) in
     record {
       zone = remove-sets r n e;

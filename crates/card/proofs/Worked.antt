@@ -17,7 +17,7 @@ use Rattle.card.specs.declared.records.Record.{Record}
 use Rattle.card.specs.declared.records.Found.the-variants.{At, Nowhere}
 use Rattle.card.specs.Answers.{Result}
 use Rattle.card.specs.Records.{emptyRecord, withZone, differ, otherwiseSound, sound, findFrom, findOf}
-use Rattle.card.specs.Calls.{addOf, removeOf, reportOf, applyOf, chooseSourceOf, degrees, setpointInUseOf, oldEndsFrom, repairOf}
+use Rattle.card.specs.Calls.{addOf, removeOf, reportOf, applyOf, chooseSourceOf, setpointTold, setpointInUseOf, oldEndsFrom, repairOf}
 use Rattle.card.specs.Rules.{toldIn, leaves}
 
 -- ---- soundness
@@ -30,12 +30,12 @@ empty-record-sound : sound emptyRecord ≡ true
 unfolding sound otherwiseSound differ zoneSound zoneOtherwiseSound allZero
 empty-record-sound = refl
 
--- zone 5 holds address 33 and has 300 degrees
+-- zone 5 holds address 33 and has 300 setpointTold
 start : Record
 unfolding addOf sound otherwiseSound differ zoneSound zoneOtherwiseSound inRange eachInRange allZero
 start = addOf emptyRecord 5 33 300 .after
 
--- records that are not sound: an absent zone with a window of zeros, one with a new zone's figures, two zones with one address, a setpoint of 301 in 300 degrees, an input of 10,001 mV, an absent zone with 1 mV and one with source voltage
+-- records that are not sound: an absent zone with a window of zeros, one with a new zone's figures, two zones with one address, a setpoint of 301 in 300 setpointTold, an input of 10,001 mV, an absent zone with 1 mV and one with source voltage
 unsound : List Record
 unfolding start
 unsound =
@@ -200,7 +200,7 @@ usage =
 inUseAt : ℕ → List (List Figures)
 inUseAt n = map (λ a. setpointInUseOf (chooseSourceOf commanded n (a .0) (a .1) .after) n .values) usage
 
-used : (inUseAt 5 ≡ map (λ a. degrees (a .2)) usage) × (inUseAt 6 ≡ map (λ a. degrees (a .3)) usage)
+used : (inUseAt 5 ≡ map (λ a. setpointTold (a .2)) usage) × (inUseAt 6 ≡ map (λ a. setpointTold (a .3)) usage)
 unfolding inUseAt usage commanded start addOf applyOf chooseSourceOf setpointInUseOf sound otherwiseSound differ zoneSound zoneOtherwiseSound inRange eachInRange allZero
 used = (refl, refl)
 
@@ -209,8 +209,8 @@ written-under-voltage : Result Record
 written-under-voltage = applyOf (chooseSourceOf commanded 5 Voltage 5000 .after) 5 (Write (SolwSetpoint (record { setpoint = 300 })))
 
 keeps-to-commanded : (written-under-voltage .number ≡ 0)
-    × (applyOf (written-under-voltage .after) 5 (Read group.Solw) .values ≡ degrees 300)
-    × (setpointInUseOf (written-under-voltage .after) 5 .values ≡ degrees 150)
+    × (applyOf (written-under-voltage .after) 5 (Read group.Solw) .values ≡ setpointTold 300)
+    × (setpointInUseOf (written-under-voltage .after) 5 .values ≡ setpointTold 150)
 unfolding written-under-voltage commanded start addOf applyOf chooseSourceOf setpointInUseOf sound otherwiseSound differ zoneSound zoneOtherwiseSound inRange eachInRange allZero
 keeps-to-commanded = (refl, refl, refl)
 
@@ -255,7 +255,7 @@ both-told : toldIn (repairOf (twice 100 300) .told) ≡ record { zone = 2; end =
 unfolding twice start addOf repairOf oldEndsFrom sound otherwiseSound differ zoneSound zoneOtherwiseSound inRange eachInRange allZero
 both-told = refl
 
--- such a window in zone 2 and another fault in zone 5, a setpoint of 301 in 300 degrees: 2, and nothing is mended or told
+-- such a window in zone 2 and another fault in zone 5, a setpoint of 301 in 300 setpointTold: 2, and nothing is mended or told
 shut-and-faulty : repairOf (withZone (withWindow start 500 200) 5 (Rattle.zone.specs.Zones.withFigures (newZone 33 300) (SolwSetpoint (record { setpoint = 301 }))))
     ≡ leaves (withZone (withWindow start 500 200) 5 (Rattle.zone.specs.Zones.withFigures (newZone 33 300) (SolwSetpoint (record { setpoint = 301 })))) 2
 unfolding withWindow start addOf repairOf oldEndsFrom sound otherwiseSound differ zoneSound zoneOtherwiseSound inRange eachInRange allZero

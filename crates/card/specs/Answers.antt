@@ -27,7 +27,7 @@ refusalNumber Checksum = 6
 refusalNumber Unknown = 7
 -- "known command, wrong length, spaces or digits"
 refusalNumber Syntax = 8
--- "a figure outside its range (composing: one the road can't carry)", and since Req 06 "a window with begin not below end"
+-- "a figure outside its range (composing: one the road can't carry)", since Req 06 "a window with begin not below end", since Req 08 "more than 10,000 mV"
 refusalNumber OutOfRange = 9
 -- "write not permitted in this state"
 refusalNumber Locked = 10
@@ -43,7 +43,7 @@ numberOf Done = 0
 numberOf (Told figures) = 0
 numberOf (Refused why) = refusalNumber why
 
--- the figures that a done read tells; no other answer has any
+-- the figures that a done read tells, or the setpoint in use (document 02, Req 08); no other answer has any
 abbrev pub valuesOf : Answer → List Figures
 valuesOf Done = []
 valuesOf (Told figures) = figures ∷ []

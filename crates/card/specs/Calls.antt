@@ -1,4 +1,4 @@
--- What each call comes to, for every record, sound or not. Its refusals stand in document 01's order, those of the source and the setpoint in use, and of the repair, at the end, in document 02's.
+-- What each call comes to, for every record, sound or not. Its refusals stand in document 01's order; those of choosing a source, of the setpoint in use and of the repair, at the end, in that of document 02.
 use Prim.Native.Nat.{ℕ, suc, _-_}
 use mathlib.Core.Bool.{Bool, cond, not, _&&_}
 use mathlib.Core.List.{List, [], _∷_, _++_, map}
@@ -80,9 +80,13 @@ writeAt z figures = record {
   after = withFigures z figures;
 }
 
+-- a zone that only tells: it refuses nothing itself, and stays as it is
+abbrev pub telling : Zone → List Figures → Judgement
+telling z values = record { rows = []; values = values; after = z }
+
 -- a read: 2, 3, in zoneRows. "Reads are permitted in every state"; "a read alters nothing"
 abbrev pub commandAt : Zone → Command → Judgement
-commandAt z (Read group) = record { rows = []; values = figuresOf z group ∷ []; after = z }
+commandAt z (Read group) = telling z (figuresOf z group ∷ [])
 commandAt z (Write figures) = writeAt z figures
 
 unfoldable pub applyOf : Record → ℕ → Command → Result Record
@@ -101,13 +105,13 @@ chooseSourceAt z source millivolts = record {
 unfoldable pub chooseSourceOf : Record → ℕ → Source → ℕ → Result Record
 chooseSourceOf r n source millivolts = atZone r n (chooseSourceAt (zoneAt r n) source millivolts)
 
--- what is told of a setpoint
-abbrev pub degrees : ℕ → List Figures
-degrees setpoint = SolwSetpoint (record { setpoint = setpoint }) ∷ []
+-- a setpoint, as it is told: in the form of SOLW, which is how LSOLW tells one
+abbrev pub setpointTold : ℕ → List Figures
+setpointTold setpoint = SolwSetpoint (record { setpoint = setpoint }) ∷ []
 
--- 2, 3, in zoneRows: of the order no more applies. It alters nothing
+-- of the same order 2, 3, in zoneRows: there is no figure to be out of range
 abbrev pub setpointInUseAt : Zone → Judgement
-setpointInUseAt z = record { rows = []; values = degrees (setpointInUse z); after = z }
+setpointInUseAt z = telling z (setpointTold (setpointInUse z))
 
 unfoldable pub setpointInUseOf : Record → ℕ → Result Record
 setpointInUseOf r n = atZone r n (setpointInUseAt (zoneAt r n))

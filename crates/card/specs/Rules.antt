@@ -22,7 +22,7 @@ use Rattle.card.specs.Calls.{addOf, toldAs, Repair, repairOf}
 pub record Keeps (r : Record) (n : ℕ) (o : Result Record) : Type 0 where
   -- "Every refusal hands back the record it was given", and tells nothing
   pub refusal : (o .number ≡ 0 → ⊥) → (o .after ≡ r) × (o .values ≡ [])
-  -- "Adding and removing touch no other zone"; a report and a write set what they set "in its zone"
+  -- "Adding and removing touch no other zone"; a report, a write and a choice of the source set what they set in their zone
   pub others : (m : ℕ) → (m ≡ n → ⊥) → zoneAt (o .after) m ≡ zoneAt r m
   -- a sound record stays sound
   pub stays : sound r ≡ true → sound (o .after) ≡ true
@@ -113,7 +113,7 @@ Rising (t ∷ ts) = ((n end : ℕ) → IsTold ts n end → t .zone < n) × Risin
 -- what a done repair of r does, zone by zone
 pub record Mends (r : Record) (o : Repair) : Type 0 where
   pub done : (o .result .number ≡ 0) × (o .result .values ≡ [])
-  -- it "sets the end to begin + 1 in each such zone", whose other figures and groups, status, address and range stay
+  -- it "sets the end to begin + 1 in each such zone", whose other figures and groups, status, address and range, source and input stay
   pub ends : (n : ℕ) (window : WindowFigures) → Shut (zoneAt r n) window → SetsFigures (zoneAt r n) (AhueWindow (opened window)) (zoneAt (o .result .after) n)
   -- "and touches nothing else"
   pub others : (n : ℕ) → ((window : WindowFigures) → Shut (zoneAt r n) window → ⊥) → zoneAt (o .result .after) n ≡ zoneAt r n
@@ -143,6 +143,6 @@ RepairOfSound = (r : Record) → sound r ≡ true → repairOf r ≡ leaves r 0
 abbrev pub RepairAgain : Type 0
 RepairAgain = (r : Record) → otherwiseSound r ≡ true → repairOf (repairOf r .result .after) ≡ leaves (repairOf r .result .after) 0
 
--- a record without such a window is sound exactly where document 01 says so. `sound-as-before`, in proofs/Repairs.antt
+-- a record without such a window is sound exactly where nothing else is wrong with it. `sound-as-before`, in proofs/Repairs.antt
 abbrev pub SoundAsBefore : Type 0
 SoundAsBefore = (r : Record) → ((n : ℕ) (window : WindowFigures) → Shut (zoneAt r n) window → ⊥) → sound r ≡ otherwiseSound r

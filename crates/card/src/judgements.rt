@@ -25,7 +25,7 @@ pub enum Asked {
     Failed(Refusal),
 }
 
-// What a zone decides: it refuses, or it tells its figures, or it is altered.
+// What a zone decides: it refuses, or it tells figures, or it is altered.
 pub enum Verdict {
     Refuses(Refusal),
     Tells(Figures),
@@ -125,7 +125,7 @@ pub fn chosen(z: Zone, source: Source, millivolts: u32) -> Verdict
 }
 
 // The setpoint in use, of a zone of a sound record.
-pub fn used(z: Zone) -> Verdict
+pub fn in_use(z: Zone) -> Verdict
     requires { ⌜ zoneSound z ≡ true ⌝ }
     ensures { λ r. ⌜ steps.verdictSeen z r ≡ steps.judged z (setpointInUseAt z) ⌝ }
 {

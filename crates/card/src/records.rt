@@ -6,8 +6,8 @@ use crate::judgements::Verdict;
 use crate::judgements::added;
 use crate::judgements::chosen;
 use crate::judgements::heard;
+use crate::judgements::in_use;
 use crate::judgements::reported;
-use crate::judgements::used;
 use zone::Command;
 use zone::Source;
 use zone::Zone;
@@ -69,8 +69,8 @@ impl Record {
         }
     }
 
-    // Every figure of every present zone lies in its range, every window opens before it closes,
-    // addresses differ and absent zones are empty.
+    // Every figure and the input of every present zone lie in their ranges, every window opens before
+    // it closes, addresses differ and absent zones are empty.
     pub fn is_sound(self) -> bool
         ensures { λ r. ⌜ r ≡ sound self ⌝ }
     {
@@ -261,7 +261,8 @@ impl Record {
         }
     }
 
-    // Who sets the zone's temperature, and the voltage at its input; in every state.
+    // Sets the zone's source, interface or voltage, and the voltage at its input. Every state permits
+    // it.
     pub fn choose_source(self, zone: usize, source: Source, millivolts: u32) -> Outcome
         ensures { λ r. ⌜ outcomeSeen r ≡ chooseSourceOf self zone source millivolts ⌝ }
     {
@@ -277,7 +278,7 @@ impl Record {
     {
         match self.reach(zone) {
             Reached::Stopped(why) => self.refused(why),
-            Reached::There(z) => self.changed(zone, used(z)),
+            Reached::There(z) => self.changed(zone, in_use(z)),
         }
     }
 

@@ -6,3 +6,4 @@ pub mod Bounds
 pub mod Texts
 pub mod Cuts
 pub mod Unique
+pub mod Unseen

@@ -90,7 +90,7 @@ stored-in-range z Solw k = k .solw
 pub stored-both : (r : Record) (n : ℕ) (g : Group) → sound r ≡ true → zoneAt r n .present ≡ true → (carries textRoad (figuresOf (zoneAt r n) g) ≡ true) × (carries frameRoad (figuresOf (zoneAt r n) g) ≡ true)
 stored-both r n g s p =
     let k = fits (zoneAt r n) p (zone-sound r n s) in
-    in-range-both (zoneAt r n .range) (figuresOf (zoneAt r n) g) (k .range) (stored-in-range (zoneAt r n) g k)
+    in-range-both (zoneAt r n .range) (figuresOf (zoneAt r n) g) (k .own .range) (stored-in-range (zoneAt r n) g k)
 
 -- ---- a read reply made a write
 

@@ -28,7 +28,7 @@ use Rattle.roads.specs.Calls.{Answered, said, tooSmall, parsedAt, textRows, tex
 use Rattle.roads.proofs.Lengths.{either, text-fits, frame-fits, line-fits, whole-frame-fits, room-kept}
 use Rattle.roads.proofs.Exactly.{text-order, frame-order, compose-order, write-line-order, write-frame-order, text-exactly, frame-exactly, compose-line-exactly, compose-frame-exactly}
 use Rattle.session.specs.Sessions.{text, frame, composeLine, composeFrame, add, remove, report, apply, chooseSource, setpointInUse, repair, Call, inRoom, quiet, answerTo, Done}
-use Rattle.session.specs.Demands.{order, refusals, among, lent, fixed, EveryCallAnswers, WritesHaveTheWholeOrder}
+use Rattle.session.specs.Demands.{order, refusals, among, lent, fixed, EveryCallAnswers, WritesHaveTheWholeOrder, CallsHaveTheWholeOrder}
 
 -- ---- the first in the printed order
 
@@ -96,6 +96,15 @@ exactly r (quiet repair) = repair-exactly r
 
 pub whole-order : WritesHaveTheWholeOrder
 whole-order r n figures bytes room = record { by-line = write-line-order r n bytes room figures; by-frame = write-frame-order r bytes room figures; applied = write-order r n figures }
+
+pub whole-order-quiet : CallsHaveTheWholeOrder
+whole-order-quiet r (add n a range) u = add-order r n a range
+whole-order-quiet r (remove n) u = remove-order r n
+whole-order-quiet r (report n state actual) u = report-order r n state actual
+whole-order-quiet r (apply n c) u = absurd (u n c refl)
+whole-order-quiet r (chooseSource n source millivolts) u = choose-source-order r n source millivolts
+whole-order-quiet r (setpointInUse n) u = setpoint-in-use-order r n
+whole-order-quiet r repair u = repair-order r
 
 -- ---- a refusal
 

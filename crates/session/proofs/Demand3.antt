@@ -106,7 +106,7 @@ unfolding carriesCommand
 both-carry r n (Read g) p h = refl
 both-carry r n (Write f) p h =
     let k = fits (zoneAt r n) (p .present) (zone-sound r n (p .sound-record)) in
-    let b = in-range-both (zoneAt r n .range) f (k .range) (not-false (inRange (zoneAt r n .range) f) (h 0)) in
+    let b = in-range-both (zoneAt r n .range) f (k .own .range) (not-false (inRange (zoneAt r n .range) f) (h 0)) in
     rw (b .0, b .1)
 
 pub only-lines : OnlyLines

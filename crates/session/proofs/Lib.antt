@@ -4,6 +4,7 @@ pub mod Changes
 pub mod Demand3
 pub mod Demand1
 pub mod Demand2
+pub mod Lasting
 pub mod Useless
 pub mod Unsound
 pub mod Sources

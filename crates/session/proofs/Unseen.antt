@@ -3,8 +3,8 @@ use Prim.Native.Nat.{ℕ}
 use mathlib.Core.Path.{_≡_, refl, sym, ap, _∙_}
 use mathlib.Core.Bool.{Bool, true, false, cond, not, _&&_, _||_}
 use mathlib.Core.List.{List, [], _∷_, map}
-use lib.ListN.{set, List·getD-map}
-use lib.Seq.{map-set-same}
+use lib.ListN.{length, getD, set, length-map, List·getD-map}
+use lib.Seq.{ext-getD, map-set-same}
 use lib.Dec.{leb}
 use Rattle.zone.specs.declared.figures.Group.{Group}
 use Rattle.zone.specs.declared.figures.Group.the-variants.{Ahue, Hzbg, Rrue, Solw}
@@ -15,14 +15,15 @@ use Rattle.zone.specs.declared.figures.Command.the-variants.{Read, Write}
 use Rattle.zone.specs.declared.sources.Source.{Source}
 use Rattle.zone.specs.declared.zones.Zone.{Zone}
 use Rattle.zone.specs.Lists.{isZero}
+use Rattle.zone.specs.Sources.{newOrigin}
 use Rattle.zone.specs.Zones.{emptyZone, figuresOf, addressInRange, rangeKnown, withFigures, withOrigin}
-use Rattle.zone.specs.Sources.{firstOrigin}
 use Rattle.zone.proofs.Tests.{never}
 use Rattle.card.specs.declared.records.Record.{Record}
 use Rattle.card.specs.Answers.{Result}
 use Rattle.card.specs.Refusals.{Row, _gives_, first, settled}
 use Rattle.card.specs.Records.{zoneAt, withZone, heldIn, sound, findOf, noZone}
 use Rattle.card.specs.Calls.{Judgement, zoneRows, atZone, addAt, addOf, removeAt, removeOf, reportAt, reportOf, commandAt, applyOf, chooseSourceAt, chooseSourceOf, Repair}
+use Rattle.card.proofs.Storing.{sound-parts}
 use Rattle.card.proofs.Mapped.{mapped, mapped-set, held-mapped, find-mapped}
 use Rattle.card.proofs.Sets.{setpoint-in-use-alters-nothing}
 use Rattle.card.proofs.Repairs.{repair-of-sound}
@@ -31,40 +32,46 @@ use Rattle.wire.specs.declared.Parsed.the-variants.{Known, Unknown, Syntax}
 use Rattle.line.specs.Line.{lineRead}
 use Rattle.frame.specs.Frame.{addressIn, bodyIn, shaped, checksumRight, bodyRead}
 use Rattle.roads.specs.Acknowledgements.{textReply, frameReply}
-use Rattle.roads.specs.Calls.{said, tooSmall, isUnknown, isSyntax, parsedAt, textResult, answerText, isNowhere, zoneFound, holder, frameResult, answerFrame}
+use Rattle.roads.specs.Calls.{Said, said, tooSmall, isUnknown, isSyntax, parsedAt, textResult, answerText, placeBy, textPlace, isNowhere, zoneFound, holder, frameResult, answerFrame}
 use Rattle.session.specs.Sessions.{text, frame, composeLine, composeFrame, Quiet, add, remove, report, apply, chooseSource, setpointInUse, repair, Call, inRoom, quiet, answerTo, after, resultOf, run}
-use Rattle.session.specs.Sources.{asksSource, isSource, struck, otherAnswers, SeenByNone}
+use Rattle.session.specs.Sources.{quietOfSource, ofSource, struck, otherAnswers, Alike, SourcesAreUnseen}
 use Rattle.session.proofs.Demand3.{stays-sound}
 
--- ---- records that are alike but for their sources
+-- ---- what does not look at the sources is the same of records that are alike
 
 -- the zone with the source and the input of a new one
 abbrev plain : Zone → Zone
-plain z = withOrigin z firstOrigin
+plain z = withOrigin z newOrigin
 
-record Alike (r r′ : Record) : Type 0 where
-  same : mapped plain r ≡ mapped plain r′
-  sound-one : sound r ≡ true
-  sound-other : sound r′ ≡ true
+-- records are alike, zone by zone, where they are one with such zones
+zones-alike : (r r′ : Record) → mapped plain r ≡ mapped plain r′ → (n : ℕ) → plain (zoneAt r n) ≡ plain (zoneAt r′ n)
+zones-alike r r′ e n = sym (List·getD-map plain (r .zones) n emptyZone) ∙ ap (λ (x : Record). zoneAt x n) e ∙ List·getD-map plain (r′ .zones) n emptyZone
 
-zone-alike : {r r′ : Record} → Alike r r′ → (n : ℕ) → plain (zoneAt r n) ≡ plain (zoneAt r′ n)
-zone-alike {r} {r′} a n = sym (List·getD-map plain (r .zones) n emptyZone) ∙ ap (λ (x : Record). zoneAt x n) (a .same) ∙ List·getD-map plain (r′ .zones) n emptyZone
+alike-mapped : (r r′ : Record) → Alike r r′ → mapped plain r ≡ mapped plain r′
+alike-mapped r r′ a =
+    let long = length-map (r .zones) plain ∙ sound-parts r (a .sound-one) .sixteen ∙ sym (length-map (r′ .zones) plain ∙ sound-parts r′ (a .sound-other) .sixteen) in
+    ap (λ (zs : List Zone). record { zones = zs })
+    (ext-getD emptyZone (map plain (r .zones)) (map plain (r′ .zones)) long
+    (λ n h. List·getD-map plain (r .zones) n emptyZone ∙ a .zones n ∙ sym (List·getD-map plain (r′ .zones) n emptyZone)))
 
--- what stands where, and who holds an address, is the same
-there-alike : {r r′ : Record} → Alike r r′ → (n : ℕ) → noZone r n ≡ noZone r′ n
-there-alike a n = ap (λ (z : Zone). leb 16 n || not (z .present)) (zone-alike a n)
+module _ {r r′ : Record} (a : Alike r r′) where
+  of-zone : {A : Type 0} (f : Zone → A) → ((z : Zone) → f z ≡ f (plain z)) → (n : ℕ) → f (zoneAt r n) ≡ f (zoneAt r′ n)
+  of-zone f blind n = blind (zoneAt r n) ∙ ap f (a .zones n) ∙ sym (blind (zoneAt r′ n))
 
-held-alike : {r r′ : Record} → Alike r r′ → (address : ℕ) → heldIn (r .zones) address ≡ heldIn (r′ .zones) address
-held-alike {r} {r′} a address =
-    sym (held-mapped plain (λ z. refl) (λ z. refl) (r .zones) address)
-    ∙ ap (λ (x : Record). heldIn (x .zones) address) (a .same)
-    ∙ held-mapped plain (λ z. refl) (λ z. refl) (r′ .zones) address
+  of-record : {A : Type 0} (f : Record → A) → ((x : Record) → f (mapped plain x) ≡ f x) → f r ≡ f r′
+  of-record f blind = sym (blind r) ∙ ap f (alike-mapped r r′ a) ∙ blind r′
 
-found-alike : {r r′ : Record} → Alike r r′ → (address : ℕ) → findOf r address ≡ findOf r′ address
-found-alike {r} {r′} a address =
-    sym (find-mapped plain (λ z. refl) (λ z. refl) 0 (r .zones) address)
-    ∙ ap (λ (x : Record). findOf x address) (a .same)
-    ∙ find-mapped plain (λ z. refl) (λ z. refl) 0 (r′ .zones) address
+  same-sound : sound r ≡ sound r′
+  same-sound = a .sound-one ∙ sym (a .sound-other)
+
+  same-there : (n : ℕ) → noZone r n ≡ noZone r′ n
+  same-there n = of-zone (λ z. leb 16 n || not (z .present)) (λ z. refl) n
+
+  same-held : (address : ℕ) → heldIn (r .zones) address ≡ heldIn (r′ .zones) address
+  same-held address = of-record (λ x. heldIn (x .zones) address) (λ x. held-mapped plain (λ z. refl) (λ z. refl) (x .zones) address)
+
+  same-found : (address : ℕ) → findOf r address ≡ findOf r′ address
+  same-found address = of-record (λ x. findOf x address) (λ x. find-mapped plain (λ z. refl) (λ z. refl) 0 (x .zones) address)
 
 -- ---- judgements that do not look at the source
 
@@ -95,7 +102,7 @@ parsed-blind (Known c) = command-blind c
 parsed-blind Unknown = record { rows = λ z. refl; values = λ z. refl; left = λ z. refl }
 parsed-blind Syntax = record { rows = λ z. refl; values = λ z. refl; left = λ z. refl }
 
--- ---- two results of which the same is seen, and the records are alike but for their sources
+-- ---- two results of which the same is seen, but for the sources of the record
 
 record Seen (o o′ : Result Record) : Type 0 where
   number : o .number ≡ o′ .number
@@ -103,89 +110,89 @@ record Seen (o o′ : Result Record) : Type 0 where
   left : mapped plain (o .after) ≡ mapped plain (o′ .after)
 
 module _ {r r′ : Record} (a : Alike r r′) where
-  sound-alike : sound r ≡ sound r′
-  sound-alike = a .sound-one ∙ sym (a .sound-other)
-
   module _ (n : ℕ) (j : Zone → Judgement) (b : Blind j) where
-    rows-alike : j (zoneAt r n) .rows ≡ j (zoneAt r′ n) .rows
-    rows-alike = b .rows (zoneAt r n) ∙ ap (λ (z : Zone). j z .rows) (zone-alike a n) ∙ sym (b .rows (zoneAt r′ n))
-
-    values-alike : j (zoneAt r n) .values ≡ j (zoneAt r′ n) .values
-    values-alike = b .values (zoneAt r n) ∙ ap (λ (z : Zone). j z .values) (zone-alike a n) ∙ sym (b .values (zoneAt r′ n))
-
-    left-alike : plain (j (zoneAt r n) .after) ≡ plain (j (zoneAt r′ n) .after)
-    left-alike = b .left (zoneAt r n) ∙ ap (λ (z : Zone). plain (j z .after)) (zone-alike a n) ∙ sym (b .left (zoneAt r′ n))
-
     -- by the same refusals
-    settled-alike : (rows rows′ : List Row) → rows ≡ rows′
+    settled-seen : (rows rows′ : List Row) → rows ≡ rows′
         → Seen (settled r rows (j (zoneAt r n) .values) (withZone r n (j (zoneAt r n) .after))) (settled r′ rows′ (j (zoneAt r′ n) .values) (withZone r′ n (j (zoneAt r′ n) .after)))
-    settled-alike rows rows′ e = record {
+    settled-seen rows rows′ e = record {
       number = ap first e;
-      values = λ i. cond (isZero (first (e i))) (values-alike i) [];
+      values = λ i. cond (isZero (first (e i))) (of-zone a (λ z. j z .values) (b .values) n i) [];
       left = rw (← e) (by-done (isZero (first rows)));
     }
       where
         by-done : (done : Bool) → mapped plain (cond done (withZone r n (j (zoneAt r n) .after)) r) ≡ mapped plain (cond done (withZone r′ n (j (zoneAt r′ n) .after)) r′)
         by-done true =
-            let zones : map plain (r .zones) ≡ map plain (r′ .zones) = ap (λ (x : Record). x .zones) (a .same) in
-            let stored : map plain (set (r .zones) n (j (zoneAt r n) .after)) ≡ map plain (set (r′ .zones) n (j (zoneAt r′ n) .after))
-            = mapped-set plain (r .zones) n (j (zoneAt r n) .after) ∙ (λ i. set (zones i) n (left-alike i)) ∙ sym (mapped-set plain (r′ .zones) n (j (zoneAt r′ n) .after)) in
+            let zones = ap (λ (x : Record). x .zones) (alike-mapped r r′ a) in
+            let z = of-zone a (λ z. plain (j z .after)) (b .left) n in
+            let stored = mapped-set plain (r .zones) n (j (zoneAt r n) .after) ∙ (λ i. set (zones i) n (z i)) ∙ sym (mapped-set plain (r′ .zones) n (j (zoneAt r′ n) .after)) in
             ap (λ (zs : List Zone). record { zones = zs }) stored
-        by-done false = a .same
+        by-done false = alike-mapped r r′ a
 
-    at-zone-alike : Seen (atZone r n (j (zoneAt r n))) (atZone r′ n (j (zoneAt r′ n)))
-    at-zone-alike = settled-alike _ _ (λ i. (not (sound-alike i) gives 2) ∷ (there-alike a n i gives 3) ∷ rows-alike i)
+    same-rows : j (zoneAt r n) .rows ≡ j (zoneAt r′ n) .rows
+    same-rows = of-zone a (λ z. j z .rows) (b .rows) n
+
+    at-zone-seen : Seen (atZone r n (j (zoneAt r n))) (atZone r′ n (j (zoneAt r′ n)))
+    at-zone-seen = settled-seen _ _ (λ i. (not (same-sound a i) gives 2) ∷ (same-there a n i gives 3) ∷ same-rows i)
 
   -- ---- call by call
 
   text-seen : (n : ℕ) (line room : List ℕ) → Seen (textResult r n line room) (textResult r′ n line room)
   text-seen n line room =
       let p = lineRead line in
-      settled-alike n (λ z. parsedAt z p) (parsed-blind p) _ _
-      (λ i. (tooSmall room gives 1) ∷ (not (sound-alike i) gives 2) ∷ (there-alike a n i gives 3) ∷ (isUnknown p gives 7) ∷ (isSyntax p gives 8) ∷ rows-alike n (λ z. parsedAt z p) (parsed-blind p) i)
+      let b = parsed-blind p in
+      settled-seen n (λ z. parsedAt z p) b _ _
+      (λ i.
+      (tooSmall room gives 1)
+      ∷ (not (same-sound a i) gives 2)
+      ∷ (same-there a n i gives 3)
+      ∷ (isUnknown p gives 7)
+      ∷ (isSyntax p gives 8)
+      ∷ same-rows n (λ z. parsedAt z p) b i)
 
   frame-seen : (bytes room : List ℕ) → Seen (frameResult r bytes room) (frameResult r′ bytes room)
   frame-seen bytes room =
       let p = bodyRead (bodyIn bytes) in
-      rw (← (found-alike a (addressIn bytes)))
-      (settled-alike (zoneFound (holder r bytes)) (λ z. parsedAt z p) (parsed-blind p) _ _
+      let b = parsed-blind p in
+      let n = zoneFound (holder r bytes) in
+      rw (← (same-found a (addressIn bytes)))
+      (settled-seen n (λ z. parsedAt z p) b _ _
       (λ i.
       (tooSmall room gives 1)
-      ∷ (not (sound-alike i) gives 2)
+      ∷ (not (same-sound a i) gives 2)
       ∷ (not (shaped bytes) gives 4)
       ∷ (isNowhere (holder r bytes) gives 5)
       ∷ (not (checksumRight bytes) gives 6)
       ∷ (isUnknown p gives 7)
       ∷ (isSyntax p gives 8)
-      ∷ rows-alike (zoneFound (holder r bytes)) (λ z. parsedAt z p) (parsed-blind p) i))
+      ∷ same-rows n (λ z. parsedAt z p) b i))
 
-  quiet-seen : (call : Quiet) → asksSource call ≡ false → Seen (resultOf r call) (resultOf r′ call)
+  -- a repair leaves a sound record as it is
+  repair-seen : Seen (resultOf r repair) (resultOf r′ repair)
+  repair-seen =
+      let one = ap (λ (o : Repair). o .result) (repair-of-sound r (a .sound-one)) in
+      let other = ap (λ (o : Repair). o .result) (repair-of-sound r′ (a .sound-other)) in
+      rw (one, other) (record { number = refl; values = refl; left = alike-mapped r r′ a })
+
+  quiet-seen : (call : Quiet) → quietOfSource call ≡ false → Seen (resultOf r call) (resultOf r′ call)
   unfolding addOf removeOf reportOf applyOf
   quiet-seen (add n address range) e =
-      settled-alike n (λ z. addAt z address range (heldIn (r .zones) address)) (record { rows = λ z. refl; values = λ z. refl; left = λ z. refl }) _ _
+      settled-seen n (λ z. addAt z address range (heldIn (r .zones) address)) (record { rows = λ z. refl; values = λ z. refl; left = λ z. refl }) _ _
       (λ i.
-      (not (sound-alike i) gives 2)
+      (not (same-sound a i) gives 2)
       ∷ (leb 16 n gives 3)
-      ∷ (zone-alike a n i .present gives 12)
+      ∷ (a .zones n i .present gives 12)
       ∷ (not (addressInRange address && rangeKnown range) gives 9)
-      ∷ (held-alike a address i gives 11)
+      ∷ (same-held a address i gives 11)
       ∷ [])
-  quiet-seen (remove n) e = at-zone-alike n (λ z. removeAt) (record { rows = λ z. refl; values = λ z. refl; left = λ z. refl })
-  quiet-seen (report n state actual) e = at-zone-alike n (λ z. reportAt z state actual) (record { rows = λ z. refl; values = λ z. refl; left = λ z. refl })
-  quiet-seen (apply n c) e = at-zone-alike n (λ z. commandAt z c) (command-blind c)
-  quiet-seen (chooseSource n chosen millivolts) e = never (sym e)
+  quiet-seen (remove n) e = at-zone-seen n (λ z. removeAt) (record { rows = λ z. refl; values = λ z. refl; left = λ z. refl })
+  quiet-seen (report n state actual) e = at-zone-seen n (λ z. reportAt z state actual) (record { rows = λ z. refl; values = λ z. refl; left = λ z. refl })
+  quiet-seen (apply n c) e = at-zone-seen n (λ z. commandAt z c) (command-blind c)
+  quiet-seen (chooseSource n source millivolts) e = never (sym e)
   quiet-seen (setpointInUse n) e = never (sym e)
-  quiet-seen repair e =
-      let one = repair-of-sound r (a .sound-one) in
-      let other = repair-of-sound r′ (a .sound-other) in
-      record {
-        number = ap (λ (o : Repair). o .result .number) one ∙ sym (ap (λ (o : Repair). o .result .number) other);
-        values = ap (λ (o : Repair). o .result .values) one ∙ sym (ap (λ (o : Repair). o .result .values) other);
-        left = ap (λ (o : Repair). mapped plain (o .result .after)) one ∙ a .same ∙ sym (ap (λ (o : Repair). mapped plain (o .result .after)) other);
-      }
+  quiet-seen repair e = repair-seen
 
-  -- what is answered is the same, and the records are left alike
-  answer-seen : (call : Call) → isSource call ≡ false → (answerTo r call .said ≡ answerTo r′ call .said) × (mapped plain (after r call) ≡ mapped plain (after r′ call))
+  -- what is answered is the same, and what is left of the records
+  answer-seen : (call : Call) → ofSource call ≡ false → (answerTo r call .said ≡ answerTo r′ call .said) × (mapped plain (after r call) ≡ mapped plain (after r′ call))
   unfolding answerText answerFrame
   answer-seen (inRoom (text n line) room) e =
       let k = text-seen n line room in
@@ -193,55 +200,69 @@ module _ {r r′ : Record} (a : Alike r r′) where
   answer-seen (inRoom (frame bytes) room) e =
       let k = frame-seen bytes room in
       (λ i. said (k .number i) (k .values i) (frameReply (addressIn bytes) (k .number i) (k .values i)) room, k .left)
-  answer-seen (inRoom (composeLine c) room) e = (refl, a .same)
-  answer-seen (inRoom (composeFrame address c) room) e = (refl, a .same)
+  answer-seen (inRoom (composeLine c) room) e = (refl, alike-mapped r r′ a)
+  answer-seen (inRoom (composeFrame address c) room) e = (refl, alike-mapped r r′ a)
   answer-seen (quiet call) e =
       let k = quiet-seen call e in
       (λ i. said (k .number i) (k .values i) [] [], k .left)
 
+  same-place : (n : ℕ) (line room : List ℕ) → textPlace r n line room ≡ textPlace r′ n line room
+  unfolding textPlace
+  same-place n line room = λ i. placeBy (answer-seen (inRoom (text n line) room) refl .0 i .number) (a .zones n i .range) line
+
+-- one call, whole
+pub one-unseen : (r r′ : Record) (call : Call) → Alike r r′ → ofSource call ≡ false → (answerTo r call .said ≡ answerTo r′ call .said) × Alike (after r call) (after r′ call)
+one-unseen r r′ call a e =
+    let k = answer-seen a call e in
+    let left : Alike (after r call) (after r′ call)
+    = record { zones = zones-alike (after r call) (after r′ call) (k .1); sound-one = stays-sound r (call ∷ []) (a .sound-one); sound-other = stays-sound r′ (call ∷ []) (a .sound-other) } in
+    (k .0, left)
+
 -- ---- a call of Req 08 alters sources alone
 
-choice-left : (r : Record) (n : ℕ) (chosen : Source) (millivolts : ℕ) → mapped plain (chooseSourceOf r n chosen millivolts .after) ≡ mapped plain r
+choice-left : (r : Record) (n : ℕ) (source : Source) (millivolts : ℕ) → mapped plain (chooseSourceOf r n source millivolts .after) ≡ mapped plain r
 unfolding chooseSourceOf
-choice-left r n chosen millivolts = by-done (isZero (first (zoneRows r n (chooseSourceAt (zoneAt r n) chosen millivolts))))
+choice-left r n source millivolts = by-done (isZero (first (zoneRows r n (chooseSourceAt (zoneAt r n) source millivolts))))
   where
-    by-done : (done : Bool) → mapped plain (cond done (withZone r n (chooseSourceAt (zoneAt r n) chosen millivolts .after)) r) ≡ mapped plain r
-    by-done true = ap (λ (zs : List Zone). record { zones = zs }) (map-set-same plain (r .zones) n (chooseSourceAt (zoneAt r n) chosen millivolts .after) emptyZone refl)
+    by-done : (done : Bool) → mapped plain (cond done (withZone r n (chooseSourceAt (zoneAt r n) source millivolts .after)) r) ≡ mapped plain r
+    by-done true = ap (λ (zs : List Zone). record { zones = zs }) (map-set-same plain (r .zones) n (chooseSourceAt (zoneAt r n) source millivolts .after) emptyZone refl)
     by-done false = refl
 
-source-left : (r : Record) (call : Call) → isSource call ≡ true → mapped plain (after r call) ≡ mapped plain r
+source-left : (r : Record) (call : Call) → ofSource call ≡ true → mapped plain (after r call) ≡ mapped plain r
 source-left r (inRoom call room) e = never e
 source-left r (quiet (add n address range)) e = never e
 source-left r (quiet (remove n)) e = never e
 source-left r (quiet (report n state actual)) e = never e
 source-left r (quiet (apply n c)) e = never e
-source-left r (quiet (chooseSource n chosen millivolts)) e = choice-left r n chosen millivolts
+source-left r (quiet (chooseSource n source millivolts)) e = choice-left r n source millivolts
 source-left r (quiet (setpointInUse n)) e = ap (mapped plain) (setpoint-in-use-alters-nothing r n)
 source-left r (quiet repair) e = never e
 
+one-source : (r r′ : Record) (call : Call) → Alike r r′ → ofSource call ≡ true → Alike (after r call) r′
+one-source r r′ call a e =
+    let zones = zones-alike (after r call) r′ (source-left r call e ∙ alike-mapped r r′ a) in
+    record { zones = zones; sound-one = stays-sound r (call ∷ []) (a .sound-one); sound-other = a .sound-other }
+
 -- ---- whole sessions
 
-record AlikeAnswers (r r′ : Record) (calls others : List Call) : Type 0 where
+record Through (r r′ : Record) (calls others : List Call) : Type 0 where
   answers : otherAnswers r calls ≡ otherAnswers r′ others
   left : Alike (run r calls) (run r′ others)
 
-stays-alike : (r r′ : Record) (calls : List Call) → Alike r r′ → AlikeAnswers r r′ calls (struck calls)
-stays-alike r r′ [] a = record { answers = refl; left = a }
-stays-alike r r′ (call ∷ calls) a = by-kind (isSource call) refl (λ x x′ b. stays-alike x x′ calls b)
+through : (r r′ : Record) (calls : List Call) → Alike r r′ → Through r r′ calls (struck calls)
+through r r′ [] a = record { answers = refl; left = a }
+through r r′ (call ∷ calls) a = by-kind (ofSource call) refl (λ x x′ b. through x x′ calls b)
   where
-    kept : (x : Record) → sound x ≡ true → sound (after x call) ≡ true
-    kept x s = stays-sound x (call ∷ []) s
-
-    by-kind : (t : Bool) → isSource call ≡ t → ((x x′ : Record) → Alike x x′ → AlikeAnswers x x′ calls (struck calls)) → AlikeAnswers r r′ (call ∷ calls) (struck (call ∷ calls))
+    by-kind : (t : Bool) → ofSource call ≡ t → ((x x′ : Record) → Alike x x′ → Through x x′ calls (struck calls)) → Through r r′ (call ∷ calls) (struck (call ∷ calls))
     by-kind true e rest =
-        let k = rest (after r call) r′ (record { same = source-left r call e ∙ a .same; sound-one = kept r (a .sound-one); sound-other = a .sound-other }) in
+        let k = rest (after r call) r′ (one-source r r′ call a e) in
         rw e (record { answers = rw e (k .answers); left = k .left })
     by-kind false e rest =
-        let same = answer-seen a call e in
-        let k = rest (after r call) (after r′ call) (record { same = same .1; sound-one = kept r (a .sound-one); sound-other = kept r′ (a .sound-other) }) in
+        let same = one-unseen r r′ call a e in
+        let k = rest (after r call) (after r′ call) (same .1) in
         rw e (record { answers = rw e (λ i. same .0 i ∷ k .answers i); left = k .left })
 
-pub seen-by-none : SeenByNone
-seen-by-none r calls s =
-    let k = stays-alike r r calls (record { same = refl; sound-one = s; sound-other = s }) in
-    record { answers = k .answers; zones = zone-alike (k .left) }
+pub unseen : SourcesAreUnseen
+unseen r r′ calls a =
+    let k = through r r′ calls a in
+    record { answers = k .answers; left = k .left; place = same-place (k .left) }

@@ -3,7 +3,7 @@
 use Prim.Native.Nat.{ℕ}
 use mathlib.Core.Path.{_≡_, refl, sym, ap, _∙_}
 use mathlib.Core.Bool.{Bool, true, false}
-use mathlib.Core.List.{List, [], _∷_}
+use mathlib.Core.List.{List}
 use lib.Dec.{eqb}
 use borrow.Author.Tests.{eqb-true, eqb-false}
 use Rattle.zone.specs.declared.figures.Figures.{Figures}
@@ -32,6 +32,7 @@ use Rattle.session.specs.Changes.{Becomes, stays, written, was-reported,
 use Rattle.session.specs.Demands.{Present, SetsOnly, EveryWriteIsStored, StaysStored}
 use Rattle.session.proofs.Done.{Applied, line-done, frame-done}
 use Rattle.session.proofs.Changes.{becomes}
+use Rattle.session.proofs.Lasting.{Kept, kept-throughout}
 
 -- ---- stored, whichever way it came
 
@@ -68,25 +69,17 @@ same-group g h {P} f u = by-index (eqb (index g) (index h)) refl
     by-index true e = let named : Is g ≡ Is h = sym (index-again g) ∙ ap groupIndexed (eqb-true (index g) (index h) e) ∙ index-again h in f (cc)
     by-index false e = u (λ q. eqb-false (index g) (index h) e (ap index q))
 
--- what is kept of the zone from call to call: it is present, and has the group's figures
-record Kept (group : Group) (before after : Zone) : Type 0 where
-  present : after .present ≡ true
-  figures : figuresOf after group ≡ figuresOf before group
-
-one-kept : (r : Record) (n : ℕ) (group : Group) (call : Call) → zoneAt r n .present ≡ true → NotRewritten n group r call → Kept group (zoneAt r n) (zoneAt (after r call) n)
-one-kept r n group call p u = by-change (becomes r call n)
+one-kept : (n : ℕ) (group : Group) (r : Record) (call : Call) → zoneAt r n .present ≡ true → NotRewritten n group r call → Kept (λ z. figuresOf z group) (zoneAt r n) (zoneAt (after r call) n)
+one-kept n group r call p u = by-change (becomes r call n)
   where
-    by-change : {z : Zone} → Becomes r n call z → Kept group (zoneAt r n) z
-    by-change (stays s) = rw s (record { present = p; figures = refl })
-    by-change (written f w q s) = same-group group (groupOf f) (λ e. absurd (u .not-written f (sym e) w)) (λ v. record { present = s .head .present ∙ p; figures = s .otherGroups group v })
-    by-change (was-reported state actual w q s) = record { present = s .head .present ∙ p; figures = s .groups group }
+    by-change : {z : Zone} → Becomes r n call z → Kept (λ z. figuresOf z group) (zoneAt r n) z
+    by-change (stays s) = rw s (record { present = p; same = refl })
+    by-change (written f w q s) = same-group group (groupOf f) (λ e. absurd (u .not-written f (sym e) w)) (λ v. record { present = s .head .present ∙ p; same = s .otherGroups group v })
+    by-change (was-reported state actual w q s) = record { present = s .head .present ∙ p; same = s .groups group }
     by-change (was-removed w q s) = absurd (u .not-removed w)
     by-change (was-added address range w q s) = never (sym q ∙ p)
-    by-change (was-chosen source millivolts w q s) = record { present = s .head .present ∙ p; figures = s .groups group }
-    by-change (was-mended window w q s) = same-group group Ahue (λ e. absurd (u .not-mended e window w)) (λ v. record { present = s .head .present ∙ p; figures = s .otherGroups group v })
+    by-change (was-chosen source millivolts w q s) = record { present = s .head .present ∙ p; same = s .groups group }
+    by-change (was-mended window w q s) = same-group group Ahue (λ e. absurd (u .not-mended e window w)) (λ v. record { present = s .head .present ∙ p; same = s .otherGroups group v })
 
 pub stays-stored : StaysStored
-stays-stored r n group [] p u = refl
-stays-stored r n group (call ∷ calls) p u =
-    let k = one-kept r n group call p (u .0) in
-    stays-stored (after r call) n group calls (k .present) (u .1) ∙ k .figures
+stays-stored r n group calls p u = kept-throughout (λ z. figuresOf z group) n (NotRewritten n group) (one-kept n group) r calls p u

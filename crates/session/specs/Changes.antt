@@ -1,4 +1,4 @@
--- What a call does to a zone: what document 01 has a done write, report, removal or addition set is set, what document 02 has chosen of a source is set, what it has a repair mend is mended, and nothing else becomes of any zone. The hypotheses of the demands on whole sessions are said in these words.
+-- What a call does to a zone: what documents 01 and 02 have a done write, report, removal, addition, choice of a source or repair set is set, and nothing else becomes of any zone. The hypotheses of the demands on whole sessions are said in these words.
 -- "P → ⊥" says that P does not hold, "P × Q" that both do.
 use Prim.Native.Nat.{ℕ}
 use mathlib.Core.Path.{_≡_}

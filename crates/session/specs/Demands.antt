@@ -119,9 +119,13 @@ pub record WholeOrder (r : Record) (n : ℕ) (figures : Figures) (bytes room : L
   pub by-frame : bodyRead (bodyIn bytes) ≡ Known (Write figures) → numbersIn (refusals r (inRoom (frame bytes) room)) ≡ frameOrder
   pub applied : numbersIn (refusals r (quiet (apply n (Write figures)))) ≡ applyOrder
 
--- `whole-order`, in proofs/Answering.antt
+-- `whole-order` and, of the statement below, `whole-order-quiet`, in proofs/Answering.antt
 abbrev pub WritesHaveTheWholeOrder : Type 0
 WritesHaveTheWholeOrder = (r : Record) (n : ℕ) (figures : Figures) (bytes room : List ℕ) → WholeOrder r n figures bytes room
+
+-- and so of every other call without a room, but for applying a read
+abbrev pub CallsHaveTheWholeOrder : Type 0
+CallsHaveTheWholeOrder = (r : Record) (call : Quiet) → ((n : ℕ) (command : Command) → call ≡ apply n command → ⊥) → numbersIn (refusals r (quiet call)) ≡ order (quiet call)
 
 -- "Until it is added again a removed zone is never written to": it stays the empty zone, through any session and from any record. A refused addition does not add it.
 -- `stays-empty` and `stays-removed`, in proofs/Demand1.antt

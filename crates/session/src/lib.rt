@@ -1,3 +1,5 @@
-// What holds of every session: the buyer's three demands, as theorems over the calls. There is no code here.
+// What holds of every session: the buyer's three demands, and what requests say of sessions, as
+// theorems over the calls. There is no code here.
 //
-// specs/Sessions.antt says what a session is, specs/Demands.antt what is demanded; proofs/ has a file for each demand.
+// specs/Sessions.antt says what a session is, specs/Demands.antt what is demanded and
+// specs/Sources.antt what is said of sources; proofs/ has a file for each demand.

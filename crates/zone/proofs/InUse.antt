@@ -59,7 +59,7 @@ pub small : (z : Zone) → zoneSound z ≡ true → Small z
 small z s = by-presence (z .present) refl
   where
     by-presence : (p : Bool) → z .present ≡ p → Small z
-    by-presence true p = let k = fits z p s in record { input = leb-true (z .origin .millivolts) 10000 (k .input); range = range-small (z .range) (k .range) }
+    by-presence true p = let k = fits z p s in record { input = leb-true (z .origin .millivolts) 10000 (k .own .input); range = range-small (z .range) (k .own .range) }
     by-presence false p =
         let e = absent-empty z p s in
         record { input = omega (arith, ap (λ (x : Zone). x .origin .millivolts) e); range = omega (arith, ap (λ (x : Zone). x .range) e) }
@@ -79,4 +79,4 @@ in-use-within z p s = by-source (z .origin .source)
 
     by-source : (source : Source) → setpointBy source z ≤ z .range
     by-source Interface = setpoint-within (z .range) (z .settings .setpoint) (k .solw)
-    by-source Voltage = voltage-within (z .origin .millivolts) (z .range) (leb-true (z .origin .millivolts) 10000 (k .input))
+    by-source Voltage = voltage-within (z .origin .millivolts) (z .range) (leb-true (z .origin .millivolts) 10000 (k .own .input))

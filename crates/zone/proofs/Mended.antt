@@ -127,7 +127,7 @@ window-otherwise z f s w =
     let k = otherwise-fits z p s in
     let each = window-each z f s w in
     otherwise-fitting (withWatch z (Window (opened f))) p
-    (record { address = k .address; range = k .range; actual = k .actual; input = k .input; ahue = opened-in (z .range) f each (begin-in (z .range) f each); hzbg = k .hzbg; rrue = k .rrue; solw = k .solw })
+    (record { own = k .own; ahue = opened-in (z .range) f each (begin-in (z .range) f each); hzbg = k .hzbg; rrue = k .rrue; solw = k .solw })
 
 pub mended-otherwise : (z : Zone) → zoneOtherwiseSound z ≡ true → zoneOtherwiseSound (mended z) ≡ true
 mended-otherwise z s = by-window z (λ e. rw (mended-same z e) s) (λ f w. rw (mended-window z f w) (window-otherwise z f s (w .has)))

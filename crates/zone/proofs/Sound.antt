@@ -19,16 +19,20 @@ use Rattle.zone.specs.declared.zones.Settings.{Settings}
 use Rattle.zone.specs.declared.zones.Zone.{Zone}
 use Rattle.zone.specs.Lists.{isZero}
 use Rattle.zone.specs.Figures.{eachInRange, opens, inRange, allZero}
-use Rattle.zone.specs.Sources.{inputInRange, firstOrigin, isInterface, isFirst}
+use Rattle.zone.specs.Sources.{inputInRange, newOrigin, isInterface, isNew}
 use Rattle.zone.specs.Zones.{newZone, emptyZone, watchFigures, figuresOf, addressInRange, rangeKnown, actualInRange, isOff, isDeadline, groupsEachInRange, presentOtherwiseSound, groupsZero, holdsNothing, zoneOtherwiseSound, windowOpens, zoneSound, withStatus, withOrigin, withFigures}
 use Rattle.zone.proofs.Tests.{never, both, and-l, and-r}
 
+-- the numbers of a present zone that stand in no group of commands
+pub record OwnFit (a temperature value millivolts : ℕ) : Type 0 where
+  pub address : addressInRange a ≡ true
+  pub range : rangeKnown temperature ≡ true
+  pub actual : actualInRange value ≡ true
+  pub input : inputInRange millivolts ≡ true
+
 -- the parts of a present zone's soundness, one by one, by how a group's figures are judged
 pub record FitBy (test : ℕ → Figures → Bool) (z : Zone) : Type 0 where
-  pub address : addressInRange (z .address) ≡ true
-  pub range : rangeKnown (z .range) ≡ true
-  pub actual : actualInRange (z .status .actual) ≡ true
-  pub input : inputInRange (z .origin .millivolts) ≡ true
+  pub own : OwnFit (z .address) (z .range) (z .status .actual) (z .origin .millivolts)
   pub ahue : test (z .range) (figuresOf z Ahue) ≡ true
   pub hzbg : test (z .range) (figuresOf z Hzbg) ≡ true
   pub rrue : test (z .range) (figuresOf z Rrue) ≡ true
@@ -47,10 +51,7 @@ otherwise-fits z p s =
     let h : presentOtherwiseSound z ≡ true = rw p at s in
     let groups : groupsEachInRange z ≡ true = search (and-l, and-r) in
     record {
-      address = search (and-l, and-r);
-      range = search (and-l, and-r);
-      actual = search (and-l, and-r);
-      input = search (and-l, and-r);
+      own = record { address = search (and-l, and-r); range = search (and-l, and-r); actual = search (and-l, and-r); input = search (and-l, and-r) };
       ahue = search and-l;
       hzbg = search (and-l, and-r);
       rrue = search (and-l, and-r);
@@ -59,7 +60,7 @@ otherwise-fits z p s =
 
 pub otherwise-fitting : (z : Zone) → z .present ≡ true → OtherwiseFit z → zoneOtherwiseSound z ≡ true
 unfolding zoneOtherwiseSound
-otherwise-fitting z p k = rw p (rw (k .address, k .range, k .actual, k .input, k .ahue, k .hzbg, k .rrue, k .solw))
+otherwise-fitting z p k = rw p (rw (k .own .address, k .own .range, k .own .actual, k .own .input, k .ahue, k .hzbg, k .rrue, k .solw))
 
 -- ---- the rule
 
@@ -91,10 +92,7 @@ fits z p s =
     let parts = sound-zone-parts z s in
     let k = otherwise-fits z p (parts .0) in
     record {
-      address = k .address;
-      range = k .range;
-      actual = k .actual;
-      input = k .input;
+      own = k .own;
       ahue = range-kept (z .range) (figuresOf z Ahue) (parts .1) ∙ k .ahue;
       hzbg = range-kept (z .range) (figuresOf z Hzbg) refl ∙ k .hzbg;
       rrue = range-kept (z .range) (figuresOf z Rrue) refl ∙ k .rrue;
@@ -107,10 +105,7 @@ fitting z p k =
     sound-zone z
     (otherwise-fitting z p
     (record {
-      address = k .address;
-      range = k .range;
-      actual = k .actual;
-      input = k .input;
+      own = k .own;
       ahue = ahue .0;
       hzbg = in-range-parts (z .range) (figuresOf z Hzbg) (k .hzbg) .0;
       rrue = in-range-parts (z .range) (figuresOf z Rrue) (k .rrue) .0;
@@ -129,12 +124,12 @@ new-sound address range a r = rw (a, r, leb·zero range)
 pub status-sound : (z : Zone) (s : Status) → z .present ≡ true → zoneSound z ≡ true → actualInRange (s .actual) ≡ true → zoneSound (withStatus z s) ≡ true
 status-sound z s p h a =
     let k = fits z p h in
-    fitting (withStatus z s) p (record { address = k .address; range = k .range; actual = a; input = k .input; ahue = k .ahue; hzbg = k .hzbg; rrue = k .rrue; solw = k .solw })
+    fitting (withStatus z s) p (record { own = record { address = k .own .address; range = k .own .range; actual = a; input = k .own .input }; ahue = k .ahue; hzbg = k .hzbg; rrue = k .rrue; solw = k .solw })
 
 pub origin-sound : (z : Zone) (o : Origin) → z .present ≡ true → zoneSound z ≡ true → inputInRange (o .millivolts) ≡ true → zoneSound (withOrigin z o) ≡ true
 origin-sound z o p h i =
     let k = fits z p h in
-    fitting (withOrigin z o) p (record { address = k .address; range = k .range; actual = k .actual; input = i; ahue = k .ahue; hzbg = k .hzbg; rrue = k .rrue; solw = k .solw })
+    fitting (withOrigin z o) p (record { own = record { address = k .own .address; range = k .own .range; actual = k .own .actual; input = i }; ahue = k .ahue; hzbg = k .hzbg; rrue = k .rrue; solw = k .solw })
 
 pub figures-sound : (z : Zone) (f : Figures) → z .present ≡ true → zoneSound z ≡ true → inRange (z .range) f ≡ true → zoneSound (withFigures z f) ≡ true
 figures-sound z f p h e = by-form f e
@@ -143,11 +138,11 @@ figures-sound z f p h e = by-form f e
     k = fits z p h
 
     by-form : (f : Figures) → inRange (z .range) f ≡ true → zoneSound (withFigures z f) ≡ true
-    by-form (AhueDeadline f) e = fitting _ p (record { address = k .address; range = k .range; actual = k .actual; input = k .input; ahue = e; hzbg = k .hzbg; rrue = k .rrue; solw = k .solw })
-    by-form (AhueWindow f) e = fitting _ p (record { address = k .address; range = k .range; actual = k .actual; input = k .input; ahue = e; hzbg = k .hzbg; rrue = k .rrue; solw = k .solw })
-    by-form (HzbgLimit f) e = fitting _ p (record { address = k .address; range = k .range; actual = k .actual; input = k .input; ahue = k .ahue; hzbg = e; rrue = k .rrue; solw = k .solw })
-    by-form (RrueReference f) e = fitting _ p (record { address = k .address; range = k .range; actual = k .actual; input = k .input; ahue = k .ahue; hzbg = k .hzbg; rrue = e; solw = k .solw })
-    by-form (SolwSetpoint f) e = fitting _ p (record { address = k .address; range = k .range; actual = k .actual; input = k .input; ahue = k .ahue; hzbg = k .hzbg; rrue = k .rrue; solw = e })
+    by-form (AhueDeadline f) e = fitting _ p (record { own = k .own; ahue = e; hzbg = k .hzbg; rrue = k .rrue; solw = k .solw })
+    by-form (AhueWindow f) e = fitting _ p (record { own = k .own; ahue = e; hzbg = k .hzbg; rrue = k .rrue; solw = k .solw })
+    by-form (HzbgLimit f) e = fitting _ p (record { own = k .own; ahue = k .ahue; hzbg = e; rrue = k .rrue; solw = k .solw })
+    by-form (RrueReference f) e = fitting _ p (record { own = k .own; ahue = k .ahue; hzbg = k .hzbg; rrue = e; solw = k .solw })
+    by-form (SolwSetpoint f) e = fitting _ p (record { own = k .own; ahue = k .ahue; hzbg = k .hzbg; rrue = k .rrue; solw = e })
 
 -- ---- an absent zone that is sound is the empty zone
 
@@ -184,8 +179,8 @@ by-interface : (s : Source) → isInterface s ≡ true → s ≡ Interface
 by-interface Interface e = refl
 by-interface Voltage e = never e
 
-origin-first : (o : Origin) → isFirst o ≡ true → o ≡ firstOrigin
-origin-first o e =
+origin-new : (o : Origin) → isNew o ≡ true → o ≡ newOrigin
+origin-new o e =
     let source : o .source ≡ Interface = by-interface _ (search and-l) in
     let millivolts : o .millivolts ≡ 0 = zero _ (search and-r) in
     λ i. record { source = source i; millivolts = millivolts i }
@@ -201,7 +196,7 @@ otherwise-empty z p s =
     let state : z .status .state ≡ Off = off _ (search (and-l, and-r)) in
     let watch = watch-zero (z .watch) (search (and-l, and-r)) (search and-l) in
     let settings = settings-zero (z .settings) (search (and-l, and-r)) (search (and-l, and-r)) (search (and-l, and-r)) in
-    let origin = origin-first (z .origin) (search and-r) in
+    let origin = origin-new (z .origin) (search and-r) in
     λ i. record { present = p i; address = address i; range = range i; status = record { state = state i; actual = actual i }; watch = watch i; settings = settings i; origin = origin i }
 
 pub absent-empty : (z : Zone) → z .present ≡ false → zoneSound z ≡ true → z ≡ emptyZone

@@ -52,13 +52,13 @@ pub record Shut (z : Zone) (window : WindowFigures) : Type 0 where
 abbrev pub RuleBroken : Type 0
 RuleBroken = (figures : Figures) → (opens figures ≡ false) ↔ ((window : WindowFigures) × (figures ≡ AhueWindow window) × (window .end ≤ window .begin))
 
--- and what is no such window is judged as before: by document 01's tests alone. `range-as-before` and `sound-as-before`, in proofs/Mended.antt
+-- and what is no such window is judged as before: its figures each by its own range, a zone by what else is asked of it. `range-as-before` and `sound-as-before`, in proofs/Mended.antt
 abbrev pub RangeAsBefore : Type 0
 RangeAsBefore = (range : ℕ) (figures : Figures) → ((window : WindowFigures) → figures ≡ AhueWindow window → window .end ≤ window .begin → ⊥) → inRange range figures ≡ eachInRange range figures
 
 abbrev pub SoundAsBefore : Type 0
 SoundAsBefore = (z : Zone) → ((window : WindowFigures) → Shut z window → ⊥) → zoneSound z ≡ zoneOtherwiseSound z
 
--- "millivolts times range divided by 10,000, rounded down" (document 02, Req 08): the voltage comes to so many ten-thousandths of the range, and to less than one degree more. `rounded-down`, in proofs/InUse.antt
+-- "millivolts times range divided by 10,000, rounded down" (document 02, Req 08): the most whole setpointTold that are not above so many ten-thousandths of the range. `rounded-down`, in proofs/InUse.antt
 abbrev pub RoundedDown : Type 0
 RoundedDown = (millivolts range : ℕ) → (byVoltage millivolts range * 10000 ≤ millivolts * range) × (millivolts * range < (byVoltage millivolts range + 1) * 10000)

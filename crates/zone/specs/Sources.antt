@@ -13,16 +13,16 @@ abbrev pub inputInRange : ℕ → Bool
 inputInRange millivolts = leb millivolts 10000
 
 -- "A new zone, like an absent one, has source interface and 0 mV"
-abbrev pub firstOrigin : Origin
-firstOrigin = record { source = Interface; millivolts = 0 }
+abbrev pub newOrigin : Origin
+newOrigin = record { source = Interface; millivolts = 0 }
 
 abbrev pub isInterface : Source → Bool
 isInterface Interface = true
 isInterface Voltage = false
 
--- as a test
-abbrev pub isFirst : Origin → Bool
-isFirst origin = isInterface (origin .source) && isZero (origin .millivolts)
+-- as a test: an origin that passes it is newOrigin (origin-new, in proofs/Sound.antt)
+abbrev pub isNew : Origin → Bool
+isNew origin = isInterface (origin .source) && isZero (origin .millivolts)
 
 -- "10 V means the full range": "millivolts times range divided by 10,000, rounded down", which is how whole numbers are divided
 abbrev pub byVoltage : ℕ → ℕ → ℕ

@@ -18,7 +18,7 @@ use Rattle.zone.specs.declared.zones.Zone.{Zone}
 use Rattle.zone.specs.Lists.{within, isZero, every}
 use Rattle.zone.specs.Table.{everyGroup}
 use Rattle.zone.specs.Figures.{eachInRange, opens, allZero}
-use Rattle.zone.specs.Sources.{inputInRange, firstOrigin, isFirst}
+use Rattle.zone.specs.Sources.{inputInRange, newOrigin, isNew}
 
 -- "A new zone is Off with actual value 0, watch off (deadline form, lower 10, upper 10, time 10), heating limit 0, reference watch off with 10 and 10, setpoint 0"; and by document 02, Req 08, "source interface and 0 mV"
 abbrev pub newZone : ℕ → ℕ → Zone
@@ -29,7 +29,7 @@ newZone address range = record {
   status = record { state = Off; actual = 0 };
   watch = Deadline (record { flag = 0; lower = 10; upper = 10; time = 10 });
   settings = record { limit = record { time = 0 }; reference = record { flag = 0; lower = 10; upper = 10 }; setpoint = record { setpoint = 0 } };
-  origin = firstOrigin;
+  origin = newOrigin;
 }
 
 -- "An absent zone holds nothing: all its numbers are 0, its state is Off, its watch a deadline"; its source is interface (Req 08)
@@ -41,7 +41,7 @@ emptyZone = record {
   status = record { state = Off; actual = 0 };
   watch = Deadline (record { flag = 0; lower = 0; upper = 0; time = 0 });
   settings = record { limit = record { time = 0 }; reference = record { flag = 0; lower = 0; upper = 0 }; setpoint = record { setpoint = 0 } };
-  origin = firstOrigin;
+  origin = newOrigin;
 }
 
 -- ---- what is read
@@ -78,7 +78,7 @@ actualInRange actual = leb actual 999
 abbrev pub groupsEachInRange : Zone → Bool
 groupsEachInRange z = every (λ group. eachInRange (z .range) (figuresOf z group)) everyGroup
 
--- "every figure of every present zone lies in its range", each judged by its own, and so does its input (Req 08); of the state and the source there is nothing to test, since the types have just those
+-- "every figure of every present zone lies in its range", each judged by its own, and so does its input (Req 08); of the state and the source there is nothing to test, since their types have no others
 abbrev pub presentOtherwiseSound : Zone → Bool
 presentOtherwiseSound z = addressInRange (z .address) && rangeKnown (z .range) && actualInRange (z .status .actual) && inputInRange (z .origin .millivolts) && groupsEachInRange z
 
@@ -97,7 +97,7 @@ groupsZero z = every (λ group. allZero (figuresOf z group)) everyGroup
 
 -- "An absent zone holds nothing", as a test: an absent zone that passes it is emptyZone (absent-empty, in proofs/Sound.antt)
 abbrev pub holdsNothing : Zone → Bool
-holdsNothing z = isZero (z .address) && isZero (z .range) && isZero (z .status .actual) && groupsZero z && isOff (z .status .state) && isDeadline (z .watch) && isFirst (z .origin)
+holdsNothing z = isZero (z .address) && isZero (z .range) && isZero (z .status .actual) && groupsZero z && isOff (z .status .state) && isDeadline (z .watch) && isNew (z .origin)
 
 -- what document 01 asks of each zone of a sound record, with its source and input (Req 08): soundness without the rule that a window opens before it closes
 unfoldable pub zoneOtherwiseSound : Zone → Bool

@@ -1,9 +1,8 @@
 // Who sets the temperature: the interface, by commands, or the voltage at a zone's input.
 ghost use mathlib.Core.Path.{_≡_};
 ghost use Prim.Native.Nat.{_≤_};
-ghost use Rattle.zone.specs.Sources.{inputInRange, isInterface, isFirst, byVoltage};
+ghost use Rattle.zone.specs.Sources.{inputInRange, isInterface, isNew, byVoltage};
 
-// Where a number is wanted, interface has 0 and voltage 1.
 pub enum Source {
     Interface,
     Voltage,
@@ -28,8 +27,8 @@ impl Source {
 
 impl Origin {
     // It is that of a new zone, and of an absent one.
-    pub fn is_first(self) -> bool
-        ensures { λ r. ⌜ r ≡ isFirst self ⌝ }
+    pub fn is_new(self) -> bool
+        ensures { λ r. ⌜ r ≡ isNew self ⌝ }
     {
         let source = self.source;
         source.is_interface() & (self.millivolts == 0)

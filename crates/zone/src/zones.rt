@@ -313,8 +313,8 @@ impl Zone {
         self.is_otherwise_sound() & self.window_opens()
     }
 
-    // Soundness without the rule for windows: a present zone has every figure in its own range, and
-    // an absent one is empty.
+    // Soundness without the rule for windows: a present zone has every figure and its input in their
+    // ranges, and an absent one is empty.
     pub fn is_otherwise_sound(self) -> bool
         ensures { λ r. ⌜ r ≡ zoneOtherwiseSound self ⌝ }
     {
@@ -360,7 +360,7 @@ impl Zone {
             & self.groups_zero()
             & state.is_off()
             & watch.is_deadline()
-            & origin.is_first()
+            & origin.is_new()
     }
 
     fn groups_zero(self) -> bool

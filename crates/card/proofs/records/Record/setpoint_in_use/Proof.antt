@@ -9,8 +9,8 @@ use borrow.Author.Needs.{needs}
 use Rattle.card.proofs.records.Record.setpoint_in_use.Statement.{statement}
 use Rattle.card.proofs.records.Record.setpoint_in_use.Tie as tie
 
-used-requires : tie.Need-used-requires
-used-requires c κs =
+in-use-requires : tie.Need-in-use-requires
+in-use-requires c κs =
     let k = reaches _ _ _ (sym (c .before .before .before .reach .ensures) ∙ c .before .z .given .1) in
     rw (k .zone) (zone-sound _ _ (k .sound-record))
 
@@ -29,7 +29,7 @@ unfolding setpointInUseOf
 returns-2 c =
     let p = c .before .before .before in
     c .changed .ensures
-    ∙ at-zone _ _ _ (λ z. verdictSeen z (c .before .used .result)) setpointInUseAt (sym (p .before .before .reach .ensures) ∙ p .z .given .1) (c .before .used .ensures)
+    ∙ at-zone _ _ _ (λ z. verdictSeen z (c .before .in-use .result)) setpointInUseAt (sym (p .before .before .reach .ensures) ∙ p .z .given .1) (c .before .in-use .ensures)
 
 pub setpoint-in-use-spec : {M : Type 1} → statement M
 setpoint-in-use-spec =
@@ -39,7 +39,7 @@ setpoint-in-use-spec =
     (λ c. search needs)
     (λ c κs. search needs)
     (λ c. search needs)
-    used-requires
+    in-use-requires
     changed-requires
     returns
     returns-2)
