@@ -30,12 +30,12 @@ empty-record-sound : sound emptyRecord ≡ true
 unfolding sound otherwiseSound differ zoneSound zoneOtherwiseSound allZero
 empty-record-sound = refl
 
--- zone 5 holds address 33 and has 300 setpointTold
+-- zone 5 holds address 33 and has 300 degrees
 start : Record
 unfolding addOf sound otherwiseSound differ zoneSound zoneOtherwiseSound inRange eachInRange allZero
 start = addOf emptyRecord 5 33 300 .after
 
--- records that are not sound: an absent zone with a window of zeros, one with a new zone's figures, two zones with one address, a setpoint of 301 in 300 setpointTold, an input of 10,001 mV, an absent zone with 1 mV and one with source voltage
+-- records that are not sound: an absent zone with a window of zeros, one with a new zone's figures, two zones with one address, a setpoint of 301 in 300 degrees, an input of 10,001 mV, an absent zone with 1 mV and one with source voltage
 unsound : List Record
 unfolding start
 unsound =
@@ -255,7 +255,7 @@ both-told : toldIn (repairOf (twice 100 300) .told) ≡ record { zone = 2; end =
 unfolding twice start addOf repairOf oldEndsFrom sound otherwiseSound differ zoneSound zoneOtherwiseSound inRange eachInRange allZero
 both-told = refl
 
--- such a window in zone 2 and another fault in zone 5, a setpoint of 301 in 300 setpointTold: 2, and nothing is mended or told
+-- such a window in zone 2 and another fault in zone 5, a setpoint of 301 in 300 degrees: 2, and nothing is mended or told
 shut-and-faulty : repairOf (withZone (withWindow start 500 200) 5 (Rattle.zone.specs.Zones.withFigures (newZone 33 300) (SolwSetpoint (record { setpoint = 301 }))))
     ≡ leaves (withZone (withWindow start 500 200) 5 (Rattle.zone.specs.Zones.withFigures (newZone 33 300) (SolwSetpoint (record { setpoint = 301 })))) 2
 unfolding withWindow start addOf repairOf oldEndsFrom sound otherwiseSound differ zoneSound zoneOtherwiseSound inRange eachInRange allZero

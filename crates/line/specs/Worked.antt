@@ -1,4 +1,4 @@
--- Worked places: a line, the place of its 8, and the place of its 9 in a zone of 300 setpointTold.
+-- Worked places: a line, the place of its 8, and the place of its 9 in a zone of 300 degrees.
 use Prim.Native.String.{String}
 use mathlib.Core.List.{List, [], _∷_}
 use Rattle.zone.specs.Lists.{ascii}

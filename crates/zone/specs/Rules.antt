@@ -59,6 +59,6 @@ RangeAsBefore = (range : ℕ) (figures : Figures) → ((window : WindowFigures) 
 abbrev pub SoundAsBefore : Type 0
 SoundAsBefore = (z : Zone) → ((window : WindowFigures) → Shut z window → ⊥) → zoneSound z ≡ zoneOtherwiseSound z
 
--- "millivolts times range divided by 10,000, rounded down" (document 02, Req 08): the most whole setpointTold that are not above so many ten-thousandths of the range. `rounded-down`, in proofs/InUse.antt
+-- "millivolts times range divided by 10,000, rounded down" (document 02, Req 08): the most whole degrees that are not above so many ten-thousandths of the range. `rounded-down`, in proofs/InUse.antt
 abbrev pub RoundedDown : Type 0
 RoundedDown = (millivolts range : ℕ) → (byVoltage millivolts range * 10000 ≤ millivolts * range) × (millivolts * range < (byVoltage millivolts range + 1) * 10000)

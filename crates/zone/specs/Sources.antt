@@ -1,4 +1,4 @@
--- "Who sets the temperature" (document 02, Req 08): the source and the input of a zone, and its setpoint in use.
+-- "Who sets the temperature" (document 02, Req 08): the source and the input of a zone, together its origin, and its setpoint in use.
 use Prim.Native.Nat.{ℕ, _*_, _/_}
 use mathlib.Core.Bool.{Bool, true, false, _&&_}
 use lib.Dec.{leb}
