@@ -50,8 +50,8 @@ nowhere-from k (z ∷ zs) a e m = by-first (holds a z) refl e (nowhere-from (suc
     by-first false h e rest zero = h
     by-first false h e rest (suc m) = rest e m
 
-is-new : (r : Record) (a n : ℕ) → findOf r a ≡ At n → FirstToHold r a n
-is-new r a n e =
+is-first : (r : Record) (a n : ℕ) → findOf r a ≡ At n → FirstToHold r a n
+is-first r a n e =
     let f = found-from 0 (r .zones) a n e in
     let p : n ≡ f .i = omega (arith, f .place) in
     record { here = rw p (f .here); earlier = λ m l. f .earlier m (omega arith) }
@@ -69,17 +69,17 @@ one-first r a n k f g = by-order (ltb k n) (ltb n k) refl refl
     by-order false false e v = omega (arith, ltb-false k n e, ltb-false n k v)
 
 pub found-first : (r : Record) (address n : ℕ) → (findOf r address ≡ At n) ↔ FirstToHold r address n
-found-first r address n = (is-new r address n, λ f. by-found (findOf r address) refl f)
+found-first r address n = (is-first r address n, λ f. by-found (findOf r address) refl f)
   where
     by-found : (x : Found) → findOf r address ≡ x → FirstToHold r address n → findOf r address ≡ At n
-    by-found (At k) e f = e ∙ ap At (one-first r address n k f (is-new r address k e))
+    by-found (At k) e f = e ∙ ap At (one-first r address n k f (is-first r address k e))
     by-found Nowhere e f = never (sym (none-holds r address e n) ∙ f .here)
 
 pub found-nowhere : (r : Record) (address : ℕ) → (findOf r address ≡ Nowhere) ↔ ((m : ℕ) → holds address (zoneAt r m) ≡ false)
 found-nowhere r address = (none-holds r address, λ h. by-found (findOf r address) refl h)
   where
     by-found : (x : Found) → findOf r address ≡ x → ((m : ℕ) → holds address (zoneAt r m) ≡ false) → findOf r address ≡ Nowhere
-    by-found (At k) e h = never (sym (h k) ∙ is-new r address k e .here)
+    by-found (At k) e h = never (sym (h k) ∙ is-first r address k e .here)
     by-found Nowhere e h = e
 
 -- a present zone of a sound record is one of the sixteen
@@ -95,7 +95,7 @@ present-below r n s p = by-place (ltb n 16) refl
 -- in a sound record what is found is a present zone
 pub found-there : (r : Record) (address n : ℕ) → sound r ≡ true → findOf r address ≡ At n → noZone r n ≡ false
 found-there r address n s e =
-    let here = is-new r address n e .here in
+    let here = is-first r address n e .here in
     let present = both (zoneAt r n .present) (eqb (zoneAt r n .address) address) here .0 in
     rw (lt-leb 16 n (present-below r n s present), present)
 
