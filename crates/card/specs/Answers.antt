@@ -27,7 +27,7 @@ refusalNumber Checksum = 6
 refusalNumber Unknown = 7
 -- "known command, wrong length, spaces or digits"
 refusalNumber Syntax = 8
--- "a figure outside its range (composing: one the road can't carry)", since Req 06 "a window with begin not below end", since Req 08 "more than 10,000 mV"
+-- "a figure outside its range (composing: one the road can't carry)", since Req 06 "A window with begin not below end", since Req 08 "more than 10,000 mV"
 refusalNumber OutOfRange = 9
 -- "write not permitted in this state"
 refusalNumber Locked = 10

@@ -1,4 +1,4 @@
--- What the functions below the calls come to. No rule of document 01 stands here, and no promise of a call that document 01 names cites it; `ask`, which the roads call, is promised by askOf below.
+-- What the functions below the calls come to. No rule of document 01 or 02 stands here, and no promise of a call that they name cites it; `ask`, which the roads call, is promised by askOf below.
 -- So is `range_at`, by rangeAt.
 use Prim.Native.Nat.{ℕ}
 use mathlib.Core.Bool.{Bool, true, false, cond, not}

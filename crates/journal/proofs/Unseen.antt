@@ -1,4 +1,4 @@
--- What a log yields does not hang on the sources of the record that it starts from: none of its calls is answered by them. Assumes nothing.
+-- What a log yields does not hang on the sources of the sound record that it starts from: none of its calls is answered by them. Assumes nothing.
 use Prim.Native.Nat.{ℕ}
 use mathlib.Core.Path.{_≡_, refl, ap}
 use mathlib.Core.Bool.{false}

@@ -17,6 +17,6 @@ CutAnywhere = (blocks : List (List ℕ)) → blocksYield emptyRecord [] blocks �
 abbrev pub LogIsSession : Type 0
 LogIsSession = (r : Record) (lines : List (List ℕ)) → linesYield r lines .after ≡ run r (callsIn lines)
 
--- "LSOLW and SOLW keep to the commanded figure" (document 02, Req 08): what a log yields does not hang on the sources of the record that it starts from. `log-unseen`, in proofs/Unseen.antt
+-- "LSOLW and SOLW keep to the commanded figure" (document 02, Req 08): what a log yields does not hang on the sources and inputs of the sound record that it starts from. `log-unseen`, in proofs/Unseen.antt
 abbrev pub LogUnseen : Type 0
 LogUnseen = (r r′ : Record) (lines : List (List ℕ)) → Alike r r′ → linesYield r lines .output ≡ linesYield r′ lines .output

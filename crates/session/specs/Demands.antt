@@ -39,7 +39,7 @@ use Rattle.session.specs.Changes.{NotAdded, NotGiven, NotRewritten}
 
 -- ---- 1. "Any bytes, any zone number and any record may be handed to the card."
 
--- the order of a call's refusals, as document 01 prints it; of apply, as it follows from that of a line; of the calls of document 02, as its requests have it
+-- the order of a call's refusals, as document 01 prints it; of apply, as it follows from that of a line; of the calls of document 02, as its requests have it, of the setpoint in use its beginning, since no figure is handed in
 abbrev pub spokenOrder : Speaking → List ℕ
 spokenOrder (text zone line) = textOrder
 spokenOrder (frame bytes) = frameOrder
@@ -123,7 +123,7 @@ pub record WholeOrder (r : Record) (n : ℕ) (figures : Figures) (bytes room : L
 abbrev pub WritesHaveTheWholeOrder : Type 0
 WritesHaveTheWholeOrder = (r : Record) (n : ℕ) (figures : Figures) (bytes room : List ℕ) → WholeOrder r n figures bytes room
 
--- and so of every other call without a room, but for applying a read
+-- and so of every other call without a room, applying apart: all of its order
 abbrev pub CallsHaveTheWholeOrder : Type 0
 CallsHaveTheWholeOrder = (r : Record) (call : Quiet) → ((n : ℕ) (command : Command) → call ≡ apply n command → ⊥) → numbersIn (refusals r (quiet call)) ≡ order (quiet call)
 
@@ -159,7 +159,7 @@ refusedSilently number r room = record { said = said number [] [] room; after = 
 abbrev pub later : Record → ℕ → List Call → Record
 later r n calls = run (after r (quiet (remove n))) calls
 
--- a call without a reply that is made at zone n, other than adding it
+-- a call without a room that is made at zone n, other than adding it
 pub data PointsAt (n : ℕ) : Quiet → Type 0 where
   applies : (command : Command) → PointsAt n (apply n command)
   reports : (state actual : ℕ) → PointsAt n (report n state actual)

@@ -25,7 +25,7 @@ use Rattle.session.specs.Demands.{Present, later}
 
 -- ---- "another gives the setpoint in use"
 
--- that is the setpoint in use of zone n, as the card tells it: the call is done, and hands back the record as it was
+-- the card, asked for the setpoint in use of zone n, tells this one: the call is done, and hands back the record as it was
 abbrev pub InUse : Record → ℕ → ℕ → Type 0
 InUse r n setpoint = answerTo r (quiet (setpointInUse n)) ≡ record { said = said 0 (setpointTold setpoint) [] []; after = r }
 
@@ -62,7 +62,7 @@ NeverFalls = (r r′ : Record) (n millivolts millivolts′ setpoint setpoint′ 
 
 -- ---- "One call sets them"
 
--- at a zone present in a sound record it is refused with 9 "for more than 10,000 mV", and else done, whatever the state: so a card that refuses every choice is none. `choices-judged`, in proofs/Sources.antt
+-- at a zone present in a sound record it is refused with 9 "for more than 10,000 mV", and else done, whatever the state: so a card that refuses every choice is ruled out. `choices-judged`, in proofs/Sources.antt
 abbrev pub ChoicesAreJudged : Type 0
 ChoicesAreJudged = (r : Record) (n : ℕ) (source : Source) (millivolts : ℕ) → Present r n
     → answerTo r (quiet (chooseSource n source millivolts)) .said .number ≡ cond (sources.inputInRange millivolts) 0 9
@@ -70,7 +70,7 @@ ChoicesAreJudged = (r : Record) (n : ℕ) (source : Source) (millivolts : ℕ) �
 -- what a done choice leaves in use: that of the voltage, at once, or the figure that was commanded before. `choice-counts`, in proofs/Sources.antt
 pub record ChoiceCounts (r : Record) (n millivolts : ℕ) : Type 0 where
   pub of-voltage : Done r (quiet (chooseSource n Voltage millivolts)) → InUse (after r (quiet (chooseSource n Voltage millivolts))) n (sources.byVoltage millivolts (zoneAt r n .range))
-  pub of-interface : Done r (quiet (chooseSource n Interface millivolts)) → InUse (after r (quiet (chooseSource n Interface millivolts))) n (zoneAt r n .settings .setpoint .setpoint)
+  pub of-interface : Done r (quiet (chooseSource n Interface millivolts)) → InUse (after r (quiet (chooseSource n Interface millivolts))) n (sources.setpointBy Interface (zoneAt r n))
 
 abbrev pub EveryChoiceCounts : Type 0
 EveryChoiceCounts = (r : Record) (n millivolts : ℕ) → ChoiceCounts r n millivolts
@@ -131,7 +131,7 @@ abbrev pub otherAnswers : Record → List Call → List Said
 otherAnswers r [] = []
 otherAnswers r (call ∷ calls) = cond (ofSource call) (otherAnswers (after r call) calls) (answerTo r call .said ∷ otherAnswers (after r call) calls)
 
--- two sound records whose zones differ, if at all, in source and input
+-- two sound records whose zones differ, if at all, in source and input alone
 pub record Alike (r r′ : Record) : Type 0 where
   pub zones : (n : ℕ) → withOrigin (zoneAt r n) sources.newOrigin ≡ withOrigin (zoneAt r′ n) sources.newOrigin
   pub sound-one : sound r ≡ true
@@ -142,7 +142,7 @@ pub record Unseen (r r′ : Record) (calls : List Call) : Type 0 where
   pub answers : otherAnswers r calls ≡ otherAnswers r′ (struck calls)
   -- and at the end the records are alike still
   pub left : Alike (run r calls) (run r′ (struck calls))
-  -- the place of a wrong line (Req 04) stands beside its answer, and is the same
+  -- the place of a wrong line (Req 04), which stands beside its answer, is the same too: here of any line that is sent next
   pub place : (n : ℕ) (line room : List ℕ) → textPlace (run r calls) n line room ≡ textPlace (run r′ (struck calls)) n line room
 
 -- `unseen`, in proofs/Unseen.antt

@@ -24,14 +24,15 @@ isInterface Voltage = false
 abbrev pub isNew : Origin → Bool
 isNew origin = isInterface (origin .source) && isZero (origin .millivolts)
 
--- "10 V means the full range": "millivolts times range divided by 10,000, rounded down", which is how whole numbers are divided
+-- "10 V means the full range": "millivolts times range divided by 10,000, rounded down". The product is divided, and the rest is dropped (RoundedDown, in Rules.antt)
 abbrev pub byVoltage : ℕ → ℕ → ℕ
 byVoltage millivolts range = millivolts * range / 10000
 
--- "The setpoint in use is the commanded one, or" that of the voltage, as the source has it
+-- "The setpoint in use is the commanded one, or" that of the voltage: of zone z, if that were its source
 abbrev pub setpointBy : Source → Zone → ℕ
 setpointBy Interface z = z .settings .setpoint .setpoint
 setpointBy Voltage z = byVoltage (z .origin .millivolts) (z .range)
 
+-- and it has one of its own
 abbrev pub setpointInUse : Zone → ℕ
 setpointInUse z = setpointBy (z .origin .source) z

@@ -78,7 +78,7 @@ actualInRange actual = leb actual 999
 abbrev pub groupsEachInRange : Zone → Bool
 groupsEachInRange z = every (λ group. eachInRange (z .range) (figuresOf z group)) everyGroup
 
--- "every figure of every present zone lies in its range", each judged by its own, and so does its input (Req 08); of the state and the source there is nothing to test, since their types have no others
+-- "every figure of every present zone lies in its range", each judged by its own, and so does its input (Req 08); of the state and the source there is nothing to test, since their types have just the four and the two
 abbrev pub presentOtherwiseSound : Zone → Bool
 presentOtherwiseSound z = addressInRange (z .address) && rangeKnown (z .range) && actualInRange (z .status .actual) && inputInRange (z .origin .millivolts) && groupsEachInRange z
 
@@ -161,7 +161,7 @@ abbrev pub openedWatch : Watch → Watch
 openedWatch (Deadline f) = Deadline f
 openedWatch (Window f) = Window (opened f)
 
--- "such a zone" is one whose window does not open before it closes; any other stays as it is
+-- "each such zone" is one whose window does not open before it closes; any other stays as it is
 abbrev pub mended : Zone → Zone
 mended z = cond (windowOpens z) z (withWatch z (openedWatch (z .watch)))
 

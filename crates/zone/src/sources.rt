@@ -42,6 +42,7 @@ pub fn input_in_range(millivolts: u32) -> bool
 }
 
 // What the voltage at the input comes to, in a zone of that temperature range: 10 V mean all of it.
+// What it asks for keeps the product within 32 bits.
 pub fn by_voltage(millivolts: u32, range: u32) -> u32
     requires { ⌜ millivolts ≤ 10000 ⌝ }
     requires { ⌜ range ≤ 500 ⌝ }
