@@ -3,11 +3,9 @@ use Prim.Native.Nat.{ℕ}
 use mathlib.Core.Path.{_≡_, refl, sym, ap, _∙_}
 use mathlib.Core.Bool.{Bool, true, false, cond, not, _&&_, _||_}
 use mathlib.Core.List.{List, [], _∷_, map}
-use lib.ListN.{length, getD, set, length-map, List·getD-map}
+use lib.ListN.{set, length-map, List·getD-map}
 use lib.Seq.{ext-getD, map-set-same}
 use lib.Dec.{leb}
-use Rattle.zone.specs.declared.figures.Group.{Group}
-use Rattle.zone.specs.declared.figures.Group.the-variants.{Ahue, Hzbg, Rrue, Solw}
 use Rattle.zone.specs.declared.figures.Figures.{Figures}
 use Rattle.zone.specs.declared.figures.Figures.the-variants.{AhueDeadline, AhueWindow, HzbgLimit, RrueReference, SolwSetpoint}
 use Rattle.zone.specs.declared.figures.Command.{Command}
@@ -16,8 +14,9 @@ use Rattle.zone.specs.declared.sources.Source.{Source}
 use Rattle.zone.specs.declared.zones.Zone.{Zone}
 use Rattle.zone.specs.Lists.{isZero}
 use Rattle.zone.specs.Sources.{newOrigin}
-use Rattle.zone.specs.Zones.{emptyZone, figuresOf, addressInRange, rangeKnown, withFigures, withOrigin}
+use Rattle.zone.specs.Zones.{emptyZone, addressInRange, rangeKnown, withFigures, withOrigin}
 use Rattle.zone.proofs.Tests.{never}
+use Rattle.zone.proofs.Written.{same-groups}
 use Rattle.card.specs.declared.records.Record.{Record}
 use Rattle.card.specs.Answers.{Result}
 use Rattle.card.specs.Refusals.{Row, _gives_, first, settled}
@@ -32,7 +31,7 @@ use Rattle.wire.specs.declared.Parsed.the-variants.{Known, Unknown, Syntax}
 use Rattle.line.specs.Line.{lineRead}
 use Rattle.frame.specs.Frame.{addressIn, bodyIn, shaped, checksumRight, bodyRead}
 use Rattle.roads.specs.Acknowledgements.{textReply, frameReply}
-use Rattle.roads.specs.Calls.{Said, said, tooSmall, isUnknown, isSyntax, parsedAt, textResult, answerText, placeBy, textPlace, isNowhere, zoneFound, holder, frameResult, answerFrame}
+use Rattle.roads.specs.Calls.{said, tooSmall, isUnknown, isSyntax, parsedAt, textResult, answerText, placeBy, textPlace, isNowhere, zoneFound, holder, frameResult, answerFrame}
 use Rattle.session.specs.Sessions.{text, frame, composeLine, composeFrame, Quiet, add, remove, report, apply, chooseSource, setpointInUse, repair, Call, inRoom, quiet, answerTo, after, resultOf, run}
 use Rattle.session.specs.Sources.{quietOfSource, ofSource, struck, otherAnswers, Alike, SourcesAreUnseen}
 use Rattle.session.proofs.Demand3.{stays-sound}
@@ -80,12 +79,6 @@ record Blind (j : Zone → Judgement) : Type 0 where
   values : (z : Zone) → j z .values ≡ j (plain z) .values
   left : (z : Zone) → plain (j z .after) ≡ plain (j (plain z) .after)
 
-read-blind : (g : Group) (z : Zone) → figuresOf z g ≡ figuresOf (plain z) g
-read-blind Ahue z = refl
-read-blind Hzbg z = refl
-read-blind Rrue z = refl
-read-blind Solw z = refl
-
 write-blind : (f : Figures) (z : Zone) → plain (withFigures z f) ≡ plain (withFigures (plain z) f)
 write-blind (AhueDeadline f) z = refl
 write-blind (AhueWindow f) z = refl
@@ -94,7 +87,7 @@ write-blind (RrueReference f) z = refl
 write-blind (SolwSetpoint f) z = refl
 
 command-blind : (c : Command) → Blind (λ z. commandAt z c)
-command-blind (Read g) = record { rows = λ z. refl; values = λ z. ap (λ (f : Figures). f ∷ []) (read-blind g z); left = λ z. refl }
+command-blind (Read g) = record { rows = λ z. refl; values = λ z. ap (λ (f : Figures). f ∷ []) (same-groups (plain z) z refl refl g); left = λ z. refl }
 command-blind (Write f) = record { rows = λ z. refl; values = λ z. refl; left = write-blind f }
 
 parsed-blind : (p : Parsed) → Blind (λ z. parsedAt z p)

@@ -1,9 +1,9 @@
 -- The setpoint in use: how the voltage at the input sets it, and that it is at most the temperature range. Assumes nothing.
-use Prim.Native.Nat.{ℕ, _+_, _*_, _/_, _≤_, _<_}
-use mathlib.Core.Path.{_≡_, refl, sym, ap, _∙_}
+use Prim.Native.Nat.{ℕ, _*_, _≤_, _<_}
+use mathlib.Core.Path.{_≡_, refl, ap}
 use mathlib.Core.Bool.{Bool, true, false, _||_}
 use native.Mathlib.Omega.{arith}
-use native.Mathlib.Nat.{zero-mul, mul-le-mul, mul-le-mul-right, mul-comm, zero-div, div-mul-le-self, lt-mul-div-succ, le-div-iff-mul-le, mul-div-cancel-left}
+use native.Mathlib.Nat.{zero-mul, mul-le-mul-right, zero-div, div-mul-le-self, lt-mul-div-succ, le-div-iff-mul-le, mul-div-cancel-left}
 use lib.Dec.{leb, eqb}
 use borrow.Author.Tests.{leb-true, eqb-true}
 use Rattle.zone.specs.declared.sources.Source.{Source}

@@ -61,7 +61,7 @@ sets-figures z f = record {
 }
 
 -- the figures of the groups stand in the watch and in the settings
-same-groups : (z z′ : Zone) → z′ .watch ≡ z .watch → z′ .settings ≡ z .settings → (g : Group) → figuresOf z′ g ≡ figuresOf z g
+pub same-groups : (z z′ : Zone) → z′ .watch ≡ z .watch → z′ .settings ≡ z .settings → (g : Group) → figuresOf z′ g ≡ figuresOf z g
 same-groups z z′ w s Ahue = ap watchFigures w
 same-groups z z′ w s Hzbg = ap (λ (x : Settings). HzbgLimit (x .limit)) s
 same-groups z z′ w s Rrue = ap (λ (x : Settings). RrueReference (x .reference)) s
