@@ -74,6 +74,10 @@ pub record Reaches (r : Record) (n : ℕ) (z : Zone) : Type 0 where
   pub sound-record : sound r ≡ true
   pub there : noZone r n ≡ false
 
+-- a number that names a present zone is one of the sixteen
+pub named-below : (r : Record) (n : ℕ) → noZone r n ≡ false → n < 16
+named-below r n e = leb-false 16 n (neither (leb 16 n) (not (zoneAt r n .present)) e .0)
+
 pub reaches : (r : Record) (n : ℕ) (z : Zone) → reachOf r n ≡ There z → Reaches r n z
 unfolding reachOf
 reaches r n z e = by-tests (sound r) (noZone r n) refl refl e
@@ -81,7 +85,7 @@ reaches r n z e = by-tests (sound r) (noZone r n) refl refl e
     by-tests : (s t : Bool) → sound r ≡ s → noZone r n ≡ t → reachBy s t r n ≡ There z → Reaches r n z
     by-tests false t p q e = absurd (let z : _≡_ {A = ℕ} 0 1 = cc in omega arith)
     by-tests true true p q e = absurd (let z : _≡_ {A = ℕ} 0 1 = cc in omega arith)
-    by-tests true false p q e = record { zone = cc; below = leb-false 16 n (neither (leb 16 n) (not (zoneAt r n .present)) q .0); sound-record = p; there = q }
+    by-tests true false p q e = record { zone = cc; below = named-below r n q; sound-record = p; there = q }
 
 -- where the zone is reached, the call comes to what the zone decides
 pub at-zone : (r : Record) (n : ℕ) (z : Zone) (seen : Zone → Result Zone) (j : Zone → Judgement) → reachOf r n ≡ There z → seen z ≡ judged z (j z)

@@ -6,6 +6,7 @@ pub mod Storing
 pub mod Mapped
 pub mod Kept
 pub mod Sets
+pub mod Merging
 pub mod Found
 pub mod Repairs
 pub mod Unique

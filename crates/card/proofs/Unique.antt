@@ -8,7 +8,7 @@ use lib.ListN.{getD}
 use Rattle.zone.specs.declared.figures.Command.{Command}
 use Rattle.zone.specs.declared.sources.Source.{Source}
 use Rattle.card.specs.declared.answers.Refusal.{Refusal}
-use Rattle.card.specs.declared.answers.Refusal.the-variants.{NoRoom, NotSound, NoZone, NoFrame, NobodyHolds, Checksum, Unknown, Syntax, OutOfRange, Locked, AddressHeld, AlreadyPresent, Unreadable}
+use Rattle.card.specs.declared.answers.Refusal.the-variants.{NoRoom, NotSound, NoZone, NoFrame, NobodyHolds, Checksum, Unknown, Syntax, OutOfRange, Locked, AddressHeld, AlreadyPresent, Unreadable, StillBooked, BadAmount, SameZone}
 use Rattle.card.specs.declared.answers.Answer.{Answer}
 use Rattle.card.specs.declared.answers.Answer.the-variants.{Done, Told, Refused}
 use Rattle.card.specs.declared.records.Record.{Record}
@@ -25,16 +25,19 @@ use Rattle.card.proofs.records.Record.report.Reads as report
 use Rattle.card.proofs.records.Record.apply.Reads as apply
 use Rattle.card.proofs.records.Record.choose_source.Reads as choose-source
 use Rattle.card.proofs.records.Record.setpoint_in_use.Reads as setpoint-in-use
+use Rattle.card.proofs.records.Record.book.Reads as book
+use Rattle.card.proofs.records.Record.ship.Reads as ship
+use Rattle.card.proofs.records.Record.merge.Reads as merge
 use Rattle.card.proofs.records.Record.repair.Reads as repair
 
 -- ---- number and values tell the answer
 
--- the answer that a number alone names
+-- the answer that a number alone names; 14 is no number of the table
 named : ℕ → Answer
 named n =
     getD
     (Done ∷ Refused NoRoom ∷ Refused NotSound ∷ Refused NoZone ∷ Refused NoFrame ∷ Refused NobodyHolds ∷ Refused Checksum ∷ Refused Unknown ∷ Refused Syntax
-    ∷ Refused OutOfRange ∷ Refused Locked ∷ Refused AddressHeld ∷ Refused AlreadyPresent ∷ Refused Unreadable ∷ [])
+    ∷ Refused OutOfRange ∷ Refused Locked ∷ Refused AddressHeld ∷ Refused AlreadyPresent ∷ Refused Unreadable ∷ Done ∷ Refused StillBooked ∷ Refused BadAmount ∷ Refused SameZone ∷ [])
     n
     Done
 
@@ -53,6 +56,9 @@ named-again Locked = refl
 named-again AddressHeld = refl
 named-again AlreadyPresent = refl
 named-again Unreadable = refl
+named-again StillBooked = refl
+named-again BadAmount = refl
+named-again SameZone = refl
 
 -- two answers with the same number and the same values are one
 pub one-answer : (a b : Answer) → numberOf a ≡ numberOf b → valuesOf a ≡ valuesOf b → a ≡ b
@@ -98,6 +104,17 @@ choose-source-unique r n source millivolts o o′ p q = one-outcome o o′ (p �
 
 pub setpoint-in-use-unique : (r : Record) (n : ℕ) (o o′ : Outcome) → setpoint-in-use.Post tt (r, (n, tt)) o (r, (n, tt)) → setpoint-in-use.Post tt (r, (n, tt)) o′ (r, (n, tt)) → o ≡ o′
 setpoint-in-use-unique r n o o′ p q = one-outcome o o′ (p ∙ sym q)
+
+pub book-unique : (r : Record) (n kg : ℕ) (o o′ : Outcome)
+    → book.Post tt (r, (n, (kg, tt))) o (r, (n, (kg, tt))) → book.Post tt (r, (n, (kg, tt))) o′ (r, (n, (kg, tt))) → o ≡ o′
+book-unique r n kg o o′ p q = one-outcome o o′ (p ∙ sym q)
+
+pub ship-unique : (r : Record) (n kg : ℕ) (o o′ : Outcome)
+    → ship.Post tt (r, (n, (kg, tt))) o (r, (n, (kg, tt))) → ship.Post tt (r, (n, (kg, tt))) o′ (r, (n, (kg, tt))) → o ≡ o′
+ship-unique r n kg o o′ p q = one-outcome o o′ (p ∙ sym q)
+
+pub merge-unique : (r : Record) (a b : ℕ) (o o′ : Outcome) → merge.Post tt (r, (a, (b, tt))) o (r, (a, (b, tt))) → merge.Post tt (r, (a, (b, tt))) o′ (r, (a, (b, tt))) → o ≡ o′
+merge-unique r a b o o′ p q = one-outcome o o′ (p ∙ sym q)
 
 pub find-unique : (r : Record) (address : ℕ) (f f′ : Found) → find.Post tt (r, (address, tt)) f (r, (address, tt)) → find.Post tt (r, (address, tt)) f′ (r, (address, tt)) → f ≡ f′
 find-unique r address f f′ p q = p ∙ sym q

@@ -12,12 +12,12 @@ use Rattle.zone.specs.declared.sources.Source.the-variants.{Interface, Voltage}
 use Rattle.zone.specs.declared.zones.Watch.the-variants.{Window}
 use Rattle.zone.specs.Figures.{eachInRange, inRange, allZero}
 use Rattle.zone.specs.declared.zones.Zone.{Zone}
-use Rattle.zone.specs.Zones.{newZone, emptyZone, zoneOtherwiseSound, zoneSound, stateNumbered, withStatus, withWatch, withOrigin}
+use Rattle.zone.specs.Zones.{newZone, emptyZone, zoneOtherwiseSound, zoneSound, stateNumbered, withStatus, withWatch, withOrigin, withKilograms}
 use Rattle.card.specs.declared.records.Record.{Record}
 use Rattle.card.specs.declared.records.Found.the-variants.{At, Nowhere}
 use Rattle.card.specs.Answers.{Result}
 use Rattle.card.specs.Records.{emptyRecord, withZone, differ, otherwiseSound, sound, findFrom, findOf}
-use Rattle.card.specs.Calls.{addOf, removeOf, reportOf, applyOf, chooseSourceOf, setpointTold, setpointInUseOf, oldEndsFrom, repairOf}
+use Rattle.card.specs.Calls.{addOf, removeOf, reportOf, applyOf, chooseSourceOf, setpointTold, setpointInUseOf, bookOf, shipOf, mergeOf, oldEndsFrom, repairOf}
 use Rattle.card.specs.Rules.{toldIn, leaves}
 
 -- ---- soundness
@@ -35,7 +35,12 @@ start : Record
 unfolding addOf sound otherwiseSound differ zoneSound zoneOtherwiseSound inRange eachInRange allZero
 start = addOf emptyRecord 5 33 300 .after
 
--- records that are not sound: an absent zone with a window of zeros, one with a new zone's figures, two zones with one address, a setpoint of 301 in 300 degrees, an input of 10,001 mV, an absent zone with 1 mV and one with source voltage
+-- and has so many kilograms on it
+holding : ℕ → Record
+unfolding start
+holding kilograms = withZone start 5 (withKilograms (newZone 33 300) kilograms)
+
+-- records that are not sound: an absent zone with a window of zeros, one with a new zone's figures, two zones with one address, a setpoint of 301 in 300 degrees, an input of 10,001 mV, an absent zone with 1 mV and one with source voltage, 1,000,001 kg, and an absent zone with 1 kg
 unsound : List Record
 unfolding start
 unsound =
@@ -46,10 +51,12 @@ unsound =
     ∷ withZone start 2 (withOrigin (newZone 34 300) (record { source = Interface; millivolts = 10001 }))
     ∷ withZone start 2 (withOrigin emptyZone (record { source = Interface; millivolts = 1 }))
     ∷ withZone start 2 (withOrigin emptyZone (record { source = Voltage; millivolts = 0 }))
+    ∷ withZone start 2 (withKilograms (newZone 34 300) 1000001)
+    ∷ withZone start 2 (withKilograms emptyZone 1)
     ∷ []
 
 -- one bad zone spoils every call: 2, also where another zone is meant
-spoilt : map (λ r. applyOf r 5 (Read group.Hzbg) .number) unsound ≡ 2 ∷ 2 ∷ 2 ∷ 2 ∷ 2 ∷ 2 ∷ 2 ∷ []
+spoilt : map (λ r. applyOf r 5 (Read group.Hzbg) .number) unsound ≡ 2 ∷ 2 ∷ 2 ∷ 2 ∷ 2 ∷ 2 ∷ 2 ∷ 2 ∷ 2 ∷ []
 unfolding unsound start addOf applyOf sound otherwiseSound differ zoneSound zoneOtherwiseSound inRange eachInRange allZero
 spoilt = refl
 
@@ -84,12 +91,12 @@ added : map (λ a. addOf start (a .asks .0) (a .asks .1) (a .asks .2) .number) a
 unfolding adding start addOf sound otherwiseSound differ zoneSound zoneOtherwiseSound inRange eachInRange allZero
 added = refl
 
--- zone
-removing : List (Asked ℕ)
-removing = (5 is 0) ∷ (4 is 3) ∷ (16 is 3) ∷ (65541 is 3) ∷ []
+-- the kilograms on zone 5, and the zone that is removed
+removing : List (Asked (ℕ × ℕ))
+removing = ((0, 5) is 0) ∷ ((1, 5) is 15) ∷ ((1000000, 5) is 15) ∷ ((0, 4) is 3) ∷ ((1, 4) is 3) ∷ ((0, 16) is 3) ∷ ((0, 65541) is 3) ∷ []
 
-removed : map (λ a. removeOf start (a .asks) .number) removing ≡ map (λ a. a .gives) removing
-unfolding removing start addOf removeOf sound otherwiseSound differ zoneSound zoneOtherwiseSound inRange eachInRange allZero
+removed : map (λ a. removeOf (holding (a .asks .0)) (a .asks .1) .number) removing ≡ map (λ a. a .gives) removing
+unfolding removing holding start addOf removeOf sound otherwiseSound differ zoneSound zoneOtherwiseSound inRange eachInRange allZero
 removed = refl
 
 -- zone, state and actual value
@@ -214,6 +221,87 @@ keeps-to-commanded : (written-under-voltage .number ≡ 0)
 unfolding written-under-voltage commanded start addOf applyOf chooseSourceOf setpointInUseOf sound otherwiseSound differ zoneSound zoneOtherwiseSound inRange eachInRange allZero
 keeps-to-commanded = (refl, refl, refl)
 
+-- ---- bookings (document 02, Req 07)
+
+-- the kilograms on zone 5, and the zone and the kilograms that are booked
+booking : List (Asked (ℕ × ℕ × ℕ))
+booking =
+    ((0, 5, 1) is 0)
+    ∷ ((0, 5, 1000000) is 0)
+    ∷ ((999999, 5, 1) is 0)
+    ∷ ((0, 5, 0) is 16)
+    ∷ ((0, 5, 1000001) is 16)
+    ∷ ((1, 5, 1000000) is 16)
+    ∷ ((1000000, 5, 1) is 16)
+    ∷ ((1, 5, 4294967295) is 16)
+    ∷ ((1000000, 5, 4294967295) is 16)
+    ∷ ((0, 4, 1) is 3)
+    ∷ ((0, 4, 0) is 3)
+    ∷ ((0, 16, 1) is 3)
+    ∷ ((0, 65541, 1) is 3)
+    ∷ []
+
+booked : map (λ a. bookOf (holding (a .asks .0)) (a .asks .1) (a .asks .2) .number) booking ≡ map (λ a. a .gives) booking
+unfolding booking holding start addOf bookOf sound otherwiseSound differ zoneSound zoneOtherwiseSound inRange eachInRange allZero
+booked = refl
+
+-- and that are shipped
+shipping : List (Asked (ℕ × ℕ × ℕ))
+shipping =
+    ((1, 5, 1) is 0)
+    ∷ ((1000000, 5, 1) is 0)
+    ∷ ((1000000, 5, 1000000) is 0)
+    ∷ ((0, 5, 0) is 16)
+    ∷ ((1, 5, 0) is 16)
+    ∷ ((0, 5, 1) is 16)
+    ∷ ((1, 5, 2) is 16)
+    ∷ ((1000000, 5, 4294967295) is 16)
+    ∷ ((1, 4, 1) is 3)
+    ∷ ((1, 16, 1) is 3)
+    ∷ []
+
+shipped : map (λ a. shipOf (holding (a .asks .0)) (a .asks .1) (a .asks .2) .number) shipping ≡ map (λ a. a .gives) shipping
+unfolding shipping holding start addOf shipOf sound otherwiseSound differ zoneSound zoneOtherwiseSound inRange eachInRange allZero
+shipped = refl
+
+-- "Booking adds, shipping subtracts": 40,000 kg, and then 1,500 of them
+adds-and-subtracts : (bookOf (holding 1) 5 40000 .after ≡ holding 40001) × (shipOf (holding 40000) 5 1500 .after ≡ holding 38500)
+unfolding holding start addOf bookOf shipOf sound otherwiseSound differ zoneSound zoneOtherwiseSound inRange eachInRange allZero
+adds-and-subtracts = (refl, refl)
+
+-- zone 4, of 500 degrees, in the state On and with a setpoint of 185, beside zone 5 as it was added, with so many kilograms on each
+heads : ℕ → ℕ → Record
+unfolding holding start
+heads on4 on5 = withZone (holding on5) 4 (withKilograms (withStatus (Rattle.zone.specs.Zones.withFigures (newZone 34 500) (SolwSetpoint (record { setpoint = 185 }))) (record { state = stateNumbered 1; actual = 20 })) on4)
+
+-- the kilograms on zones 4 and 5, and which zone is merged into which
+merging : List (Asked (ℕ × ℕ × ℕ × ℕ))
+merging =
+    ((0, 40000, 5, 4) is 0)
+    ∷ ((960000, 40000, 5, 4) is 0)
+    ∷ ((960000, 40000, 4, 5) is 0)
+    ∷ ((0, 0, 5, 4) is 0)
+    ∷ ((1000000, 0, 5, 4) is 0)
+    ∷ ((960001, 40000, 5, 4) is 16)
+    ∷ ((1000000, 1000000, 4, 5) is 16)
+    ∷ ((0, 40000, 5, 5) is 17)
+    ∷ ((1000000, 1000000, 4, 4) is 17)
+    ∷ ((0, 40000, 6, 6) is 3)
+    ∷ ((0, 40000, 6, 5) is 3)
+    ∷ ((1000000, 40000, 5, 6) is 3)
+    ∷ ((0, 40000, 16, 16) is 3)
+    ∷ ((0, 40000, 5, 65540) is 3)
+    ∷ []
+
+merged-by-number : map (λ a. mergeOf (heads (a .asks .0) (a .asks .1)) (a .asks .2) (a .asks .3) .number) merging ≡ map (λ a. a .gives) merging
+unfolding merging heads holding start addOf mergeOf sound otherwiseSound differ zoneSound zoneOtherwiseSound inRange eachInRange allZero
+merged-by-number = refl
+
+-- "fitters folded head 5 into head 4": forty tonnes stand on head 4, which keeps its figures, and head 5 is gone; and the other way round
+folded : (mergeOf (heads 2500 40000) 5 4 .after ≡ withZone (heads 42500 0) 5 emptyZone) × (mergeOf (heads 2500 40000) 4 5 .after ≡ withZone (heads 0 42500) 4 emptyZone)
+unfolding heads holding start addOf mergeOf sound otherwiseSound differ zoneSound zoneOtherwiseSound inRange eachInRange allZero
+folded = (refl, refl)
+
 -- ---- a repair (document 02, Req 06)
 
 -- zone 2 with that window
@@ -262,7 +350,7 @@ unfolding withWindow start addOf repairOf oldEndsFrom sound otherwiseSound diffe
 shut-and-faulty = refl
 
 -- another fault anywhere: 2
-spoilt-too : map (λ r. repairOf r .result .number) unsound ≡ 2 ∷ 2 ∷ 2 ∷ 2 ∷ 2 ∷ 2 ∷ 2 ∷ []
+spoilt-too : map (λ r. repairOf r .result .number) unsound ≡ 2 ∷ 2 ∷ 2 ∷ 2 ∷ 2 ∷ 2 ∷ 2 ∷ 2 ∷ 2 ∷ []
 unfolding unsound start addOf repairOf sound otherwiseSound differ zoneSound zoneOtherwiseSound inRange eachInRange allZero
 spoilt-too = refl
 

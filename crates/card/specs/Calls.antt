@@ -1,9 +1,9 @@
--- What each call comes to, for every record, sound or not. Its refusals stand in document 01's order; those of choosing a source, of the setpoint in use and of the repair, at the end, in that of document 02.
-use Prim.Native.Nat.{ℕ, suc, _-_}
-use mathlib.Core.Bool.{Bool, cond, not, _&&_}
+-- What each call comes to, for every record, sound or not. Its refusals stand in document 01's order; those of removing, of choosing a source, of the setpoint in use, of bookings and of the repair in that of document 02.
+use Prim.Native.Nat.{ℕ, suc, _+_, _-_}
+use mathlib.Core.Bool.{Bool, cond, not, _&&_, _||_}
 use mathlib.Core.List.{List, [], _∷_, _++_, map}
 use lib.ListN.{length, replicate}
-use lib.Dec.{leb}
+use lib.Dec.{leb, ltb, eqb}
 use Rattle.zone.specs.declared.figures.Figures.{Figures}
 use Rattle.zone.specs.declared.figures.Command.{Command}
 use Rattle.zone.specs.declared.figures.Command.the-variants.{Read, Write}
@@ -13,7 +13,7 @@ use Rattle.zone.specs.declared.zones.Zone.{Zone}
 use Rattle.zone.specs.Lists.{isZero}
 use Rattle.zone.specs.Figures.{groupOf, inRange}
 use Rattle.zone.specs.Sources.{inputInRange, setpointInUse}
-use Rattle.zone.specs.Zones.{newZone, emptyZone, figuresOf, addressInRange, rangeKnown, actualInRange, stateNumbered, withStatus, withFigures, withOrigin, locks, windowOpens, mended, endOf}
+use Rattle.zone.specs.Zones.{newZone, emptyZone, figuresOf, addressInRange, rangeKnown, actualInRange, bookingInRange, stateNumbered, withStatus, withFigures, withOrigin, withKilograms, locks, windowOpens, mended, endOf}
 use Rattle.card.specs.declared.records.Record.{Record}
 use Rattle.card.specs.declared.records.OldEnd.{OldEnd}
 use Rattle.card.specs.declared.records.OldEnds.{OldEnds}
@@ -54,12 +54,16 @@ zoneRows r n j = (not (sound r) gives 2) ∷ (noZone r n gives 3) ∷ j .rows
 abbrev pub atZone : Record → ℕ → Judgement → Result Record
 atZone r n j = settled r (zoneRows r n j) (j .values) (withZone r n (j .after))
 
--- "Removing: 2, 3", both of which stand in zoneRows; "Removing empties the zone"
-abbrev pub removeAt : Judgement
-removeAt = record { rows = []; values = []; after = emptyZone }
+-- "Removing: 2, 3", both of which stand in zoneRows, and "15 for removing a zone with kilograms on it" (document 02, Req 07); "Removing empties the zone"
+abbrev pub removeAt : Zone → Judgement
+removeAt z = record {
+  rows = (not (isZero (z .kilograms)) gives 15) ∷ [];
+  values = [];
+  after = emptyZone;
+}
 
 unfoldable pub removeOf : Record → ℕ → Result Record
-removeOf r n = atZone r n removeAt
+removeOf r n = atZone r n (removeAt (zoneAt r n))
 
 -- "Reporting state and actual value: 2, 3, 9", the first two in zoneRows; 9 "for a state number above 3 or an actual value above 999"
 abbrev pub reportAt : Zone → ℕ → ℕ → Judgement
@@ -115,6 +119,45 @@ setpointInUseAt z = telling z (setpointTold (setpointInUse z))
 
 unfoldable pub setpointInUseOf : Record → ℕ → Result Record
 setpointInUseOf r n = atZone r n (setpointInUseAt (zoneAt r n))
+
+-- ---- "Bookings that follow the head" (document 02, Req 07): "Orders reserve kilograms on a zone"
+
+-- "Booking adds": 2, 3, in zoneRows, and "16 for booking .. 0 .. or a result above the limit". Amounts of any size are added as numbers, so nothing wraps
+abbrev pub bookAt : Zone → ℕ → Judgement
+bookAt z kilograms = record {
+  rows = ((isZero kilograms || not (bookingInRange (z .kilograms + kilograms))) gives 16) ∷ [];
+  values = [];
+  after = withKilograms z (z .kilograms + kilograms);
+}
+
+unfoldable pub bookOf : Record → ℕ → ℕ → Result Record
+bookOf r n kilograms = atZone r n (bookAt (zoneAt r n) kilograms)
+
+-- "shipping subtracts": 2, 3, in zoneRows, and "16 for .. shipping 0, more than is held when shipping"; what is left of a sound zone's is never above the limit
+abbrev pub shipAt : Zone → ℕ → Judgement
+shipAt z kilograms = record {
+  rows = ((isZero kilograms || ltb (z .kilograms) kilograms) gives 16) ∷ [];
+  values = [];
+  after = withKilograms z (z .kilograms - kilograms);
+}
+
+unfoldable pub shipOf : Record → ℕ → ℕ → Result Record
+shipOf r n kilograms = atZone r n (shipAt (zoneAt r n) kilograms)
+
+-- what stands on b once a's whole booking has moved there
+abbrev pub together : Record → ℕ → ℕ → ℕ
+together r a b = zoneAt r b .kilograms + zoneAt r a .kilograms
+
+-- "Merging zone a into b": "17 for merging a zone with itself", 16 for "a result above the limit"; "order 2, 3 (first zone, then second), 17, 16". Both zones get the one number 3, and so stand in one row. 0 kg are no fault, and 15 is not given: what stood on a has moved
+abbrev pub mergeRows : Record → ℕ → ℕ → List Row
+mergeRows r a b = (not (sound r) gives 2) ∷ ((noZone r a || noZone r b) gives 3) ∷ (eqb a b gives 17) ∷ (not (bookingInRange (together r a b)) gives 16) ∷ []
+
+-- it "moves a's whole booking to b and removes a; a's other figures are dropped, b's are kept"
+abbrev pub merged : Record → ℕ → ℕ → Record
+merged r a b = withZone (withZone r b (withKilograms (zoneAt r b) (together r a b))) a emptyZone
+
+unfoldable pub mergeOf : Record → ℕ → ℕ → Result Record
+mergeOf r a b = settled r (mergeRows r a b) [] (merged r a b)
 
 -- ---- "For cards in the field a repair call" (document 02, Req 06): in every state, and without arguments
 

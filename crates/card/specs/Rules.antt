@@ -1,5 +1,5 @@
 -- The rules of documents 01 and 02 as statements about a call's result. Above each stands where it is proved, for every record and all arguments that it names.
-use Prim.Native.Nat.{ℕ, _<_}
+use Prim.Native.Nat.{ℕ, _+_, _<_}
 use mathlib.Core.Path.{_≡_}
 use mathlib.Core.Logic.{_↔_, _⊎_}
 use mathlib.Core.Bool.{true, false}
@@ -8,7 +8,7 @@ use lib.ListN.{length, getD, take}
 use Rattle.zone.specs.declared.figures.Figures.the-variants.{AhueWindow}
 use Rattle.zone.specs.declared.figures.WindowFigures.{WindowFigures}
 use Rattle.zone.specs.Zones.{emptyZone, addressInRange, rangeKnown, holds, opened}
-use Rattle.zone.specs.Rules.{SetsFigures, Shut}
+use Rattle.zone.specs.Rules.{SetsFigures, SetsKilograms, Shut}
 use Rattle.card.specs.declared.records.Record.{Record}
 use Rattle.card.specs.declared.records.OldEnd.{OldEnd}
 use Rattle.card.specs.declared.records.OldEnds.{OldEnds}
@@ -17,22 +17,29 @@ use Rattle.card.specs.Refusals.{Row, _gives_}
 use Rattle.card.specs.Records.{zoneAt, heldIn, otherwiseSound, sound}
 use Rattle.card.specs.Calls.{addOf, toldAs, Repair, repairOf}
 
--- What every call on zone n of r keeps, whatever it answers.
--- add-keeps, remove-keeps, report-keeps, apply-keeps, choose-source-keeps and setpoint-in-use-keeps, in proofs/Kept.antt
-pub record Keeps (r : Record) (n : ℕ) (o : Result Record) : Type 0 where
+-- What a call on r keeps, whatever it answers: all but the zones that it may touch
+pub record KeepsBesides (r : Record) (touched : ℕ → Type 0) (o : Result Record) : Type 0 where
   -- "Every refusal hands back the record it was given", and tells nothing
   pub refusal : (o .number ≡ 0 → ⊥) → (o .after ≡ r) × (o .values ≡ [])
-  -- "Adding and removing touch no other zone"; a report, a write and a choice of the source set what they set in their zone
-  pub others : (m : ℕ) → (m ≡ n → ⊥) → zoneAt (o .after) m ≡ zoneAt r m
+  -- "Adding and removing touch no other zone"; all other calls set what they set in their zone, and merging in its two
+  pub others : (m : ℕ) → (touched m → ⊥) → zoneAt (o .after) m ≡ zoneAt r m
   -- a sound record stays sound
   pub stays : sound r ≡ true → sound (o .after) ≡ true
+
+-- of a call on zone n: add-keeps, remove-keeps, report-keeps, apply-keeps, choose-source-keeps, setpoint-in-use-keeps, book-keeps and ship-keeps, in proofs/Kept.antt
+abbrev pub Keeps : Record → ℕ → Result Record → Type 0
+Keeps r n o = KeepsBesides r (λ m. m ≡ n) o
+
+-- of a merging: merge-keeps, in proofs/Merging.antt
+abbrev pub KeepsButTwo : Record → ℕ → ℕ → Result Record → Type 0
+KeepsButTwo r a b o = KeepsBesides r (λ m. (m ≡ a) ⊎ (m ≡ b)) o
 
 -- row i of a list; past its end none applies
 abbrev pub rowAt : List Row → ℕ → Row
 rowAt rows i = getD rows i (false gives 0)
 
 -- "Given exactly when".
--- add-exactly, remove-exactly, report-exactly, apply-exactly, choose-source-exactly and setpoint-in-use-exactly, in proofs/Kept.antt; repair-exactly, in proofs/Repairs.antt
+-- add-exactly, remove-exactly, report-exactly, apply-exactly, choose-source-exactly, setpoint-in-use-exactly, book-exactly, ship-exactly and merge-exactly, in proofs/Kept.antt; repair-exactly, in proofs/Repairs.antt
 pub record ExactlyWhen (rows : List Row) (number : ℕ) : Type 0 where
   -- a row's number is given if and only if its test holds and no earlier one does
   pub refused : (i : ℕ) → i < length rows → (number ≡ rowAt rows i .number) ↔ ((rowAt rows i .test ≡ true) × ((j : ℕ) → j < i → rowAt rows j .test ≡ false))
@@ -47,12 +54,12 @@ pub record ExactlyWhen (rows : List Row) (number : ℕ) : Type 0 where
 abbrev pub numbersIn : List Row → List ℕ
 numbersIn rows = map (λ row. row .number) rows
 
--- "Adding a zone (zone, address, range): 2, 3, 12, 9, 11. Removing: 2, 3. Reporting state and actual value: 2, 3, 9."
+-- "Adding a zone (zone, address, range): 2, 3, 12, 9, 11. Removing: 2, 3. Reporting state and actual value: 2, 3, 9." After removing's 3 comes 15 (document 02, Req 07)
 abbrev pub addOrder : List ℕ
 addOrder = 2 ∷ 3 ∷ 12 ∷ 9 ∷ 11 ∷ []
 
 abbrev pub removeOrder : List ℕ
-removeOrder = 2 ∷ 3 ∷ []
+removeOrder = 2 ∷ 3 ∷ 15 ∷ []
 
 abbrev pub reportOrder : List ℕ
 reportOrder = 2 ∷ 3 ∷ 9 ∷ []
@@ -68,12 +75,22 @@ chooseSourceOrder = 2 ∷ 3 ∷ 9 ∷ []
 abbrev pub setpointInUseOrder : List ℕ
 setpointInUseOrder = 2 ∷ 3 ∷ []
 
+-- document 02, Req 07: "order 2, 3 (first zone, then second), 17, 16 or 15", of each call those that it may give
+abbrev pub bookOrder : List ℕ
+bookOrder = 2 ∷ 3 ∷ 16 ∷ []
+
+abbrev pub shipOrder : List ℕ
+shipOrder = 2 ∷ 3 ∷ 16 ∷ []
+
+abbrev pub mergeOrder : List ℕ
+mergeOrder = 2 ∷ 3 ∷ 17 ∷ 16 ∷ []
+
 -- document 02, Req 06: "Any other unsoundness gives 2"
 abbrev pub repairOrder : List ℕ
 repairOrder = 2 ∷ []
 
 -- The refusals stand in the printed order: all of it, or its beginning.
--- add-order, remove-order, report-order, choose-source-order, setpoint-in-use-order, apply-order and, of a write, write-order, in proofs/Kept.antt; repair-order, in proofs/Repairs.antt
+-- add-order, remove-order, report-order, choose-source-order, setpoint-in-use-order, book-order, ship-order, merge-order, apply-order and, of a write, write-order, in proofs/Kept.antt; repair-order, in proofs/Repairs.antt
 abbrev pub InOrder : List Row → List ℕ → Type 0
 InOrder rows printed = numbersIn rows ≡ take (length rows) printed
 
@@ -87,6 +104,16 @@ pub record Frees (r : Record) (n : ℕ) (after : Record) : Type 0 where
   pub number : (address range : ℕ) → addressInRange address ≡ true → rangeKnown range ≡ true → heldIn (after .zones) address ≡ false → addOf after n address range .number ≡ 0
   -- the address, at any zone that is absent, that of old among them
   pub address : (m range : ℕ) → m < 16 → zoneAt after m .present ≡ false → rangeKnown range ≡ true → addOf after m (zoneAt r n .address) range .number ≡ 0
+
+-- "Merging zone a into b moves a's whole booking to b and removes a; a's other figures are dropped, b's are kept" (document 02, Req 07).
+-- merge-folds, in proofs/Merging.antt: of the record after a done merging of zone a of r into b
+pub record Folds (r : Record) (a b : ℕ) (after : Record) : Type 0 where
+  -- a is removed: the empty zone, and its number and address may be used again
+  pub removed : Frees r a after
+  -- b has the kilograms of both, and is otherwise as it was
+  pub moved : SetsKilograms (zoneAt r b) (zoneAt r b .kilograms + zoneAt r a .kilograms) (zoneAt after b)
+  -- no other zone is touched
+  pub others : (m : ℕ) → (m ≡ a → ⊥) → (m ≡ b → ⊥) → zoneAt after m ≡ zoneAt r m
 
 -- "the search ends at the first zone that holds it".
 -- found-first and found-nowhere, in proofs/Found.antt: find answers zone n if and only if this holds, and none if and only if no zone holds the address
@@ -113,7 +140,7 @@ Rising (t ∷ ts) = ((n end : ℕ) → IsTold ts n end → t .zone < n) × Risin
 -- what a done repair of r does, zone by zone
 pub record Mends (r : Record) (o : Repair) : Type 0 where
   pub done : (o .result .number ≡ 0) × (o .result .values ≡ [])
-  -- it "sets the end to begin + 1 in each such zone", whose other figures and groups, status, address and range, source and input stay
+  -- it "sets the end to begin + 1 in each such zone", whose other figures and groups, status, address and range, source and input, and kilograms stay
   pub ends : (n : ℕ) (window : WindowFigures) → Shut (zoneAt r n) window → SetsFigures (zoneAt r n) (AhueWindow (opened window)) (zoneAt (o .result .after) n)
   -- "and touches nothing else"
   pub others : (n : ℕ) → ((window : WindowFigures) → Shut (zoneAt r n) window → ⊥) → zoneAt (o .result .after) n ≡ zoneAt r n

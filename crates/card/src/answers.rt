@@ -18,6 +18,9 @@ pub enum Refusal {
     AddressHeld,
     AlreadyPresent,
     Unreadable,
+    StillBooked,
+    BadAmount,
+    SameZone,
 }
 
 pub enum Answer {
@@ -44,6 +47,9 @@ impl Refusal {
             Refusal::AddressHeld => 11,
             Refusal::AlreadyPresent => 12,
             Refusal::Unreadable => 13,
+            Refusal::StillBooked => 15,
+            Refusal::BadAmount => 16,
+            Refusal::SameZone => 17,
         }
     }
 }

@@ -12,11 +12,12 @@ use zone::Zone;
 use zone::actual_in_range;
 use zone::address_in_range;
 use zone::input_in_range;
+use zone::more_in_range;
 use zone::range_known;
 ghost use mathlib.Core.Path.{_≡_};
 ghost use mathlib.Core.Bool.{true};
 ghost use Rattle.zone.specs.Zones.{zoneSound};
-ghost use Rattle.card.specs.Calls.{addAt, reportAt, writeAt, commandAt, chooseSourceAt, setpointInUseAt};
+ghost use Rattle.card.specs.Calls.{addAt, removeAt, reportAt, writeAt, commandAt, chooseSourceAt, setpointInUseAt, bookAt, shipAt};
 ghost use Rattle.card.specs.Inner as steps;
 
 // What a road brings to a zone: a command, or the refusal that its bytes met with.
@@ -34,6 +35,7 @@ pub enum Verdict {
     Adds(u32, u32),
     Removes,
     Chooses(Origin),
+    Holds(u32),
 }
 
 impl Verdict {
@@ -48,6 +50,7 @@ impl Verdict {
             Verdict::Adds(_, _) => Answer::Done,
             Verdict::Removes => Answer::Done,
             Verdict::Chooses(_) => Answer::Done,
+            Verdict::Holds(_) => Answer::Done,
         }
     }
 
@@ -63,6 +66,7 @@ impl Verdict {
             Verdict::Adds(_, _) => true,
             Verdict::Removes => true,
             Verdict::Chooses(_) => true,
+            Verdict::Holds(_) => true,
         }
     }
 
@@ -78,6 +82,7 @@ impl Verdict {
             Verdict::Adds(address, range) => Zone::new(address, range),
             Verdict::Removes => z.emptied(),
             Verdict::Chooses(origin) => z.with_origin(origin),
+            Verdict::Holds(kilograms) => z.with_kilograms(kilograms),
         }
     }
 }
@@ -96,6 +101,16 @@ pub fn added(z: Zone, address: u32, range: u32, held: bool) -> Verdict
         return Verdict::Refuses(Refusal::AddressHeld);
     }
     Verdict::Adds(address, range)
+}
+
+// A removal at a zone, on which no kilograms may stand.
+pub fn removed(z: Zone) -> Verdict
+    ensures { λ r. ⌜ steps.verdictSeen z r ≡ steps.judged z (removeAt z) ⌝ }
+{
+    if !(z.kilograms == 0) {
+        return Verdict::Refuses(Refusal::StillBooked);
+    }
+    Verdict::Removes
 }
 
 // A report at a zone.
@@ -132,6 +147,26 @@ pub fn in_use(z: Zone) -> Verdict
     Verdict::Tells(Figures::SolwSetpoint(SetpointFigures {
         setpoint: z.setpoint_in_use(),
     }))
+}
+
+// A booking of so many kilograms on a zone.
+pub fn booked(z: Zone, kilograms: u32) -> Verdict
+    ensures { λ r. ⌜ steps.verdictSeen z r ≡ steps.judged z (bookAt z kilograms) ⌝ }
+{
+    if (kilograms == 0) | !more_in_range(z.kilograms, kilograms) {
+        return Verdict::Refuses(Refusal::BadAmount);
+    }
+    Verdict::Holds(z.kilograms + kilograms)
+}
+
+// A shipment of so many of the kilograms on a zone.
+pub fn shipped(z: Zone, kilograms: u32) -> Verdict
+    ensures { λ r. ⌜ steps.verdictSeen z r ≡ steps.judged z (shipAt z kilograms) ⌝ }
+{
+    if (kilograms == 0) | (z.kilograms < kilograms) {
+        return Verdict::Refuses(Refusal::BadAmount);
+    }
+    Verdict::Holds(z.kilograms - kilograms)
 }
 
 // What a road brings, at a zone.

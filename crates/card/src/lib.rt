@@ -14,6 +14,7 @@ pub use judgements::Asked;
 pub use judgements::Verdict;
 pub use judgements::added;
 pub use judgements::heard;
+pub use judgements::removed;
 pub use judgements::reported;
 pub use records::Found;
 pub use records::OldEnd;

@@ -4,21 +4,25 @@ use crate::answers::Refusal;
 use crate::judgements::Asked;
 use crate::judgements::Verdict;
 use crate::judgements::added;
+use crate::judgements::booked;
 use crate::judgements::chosen;
 use crate::judgements::heard;
 use crate::judgements::in_use;
+use crate::judgements::removed;
 use crate::judgements::reported;
+use crate::judgements::shipped;
 use zone::Command;
 use zone::Source;
 use zone::Zone;
+use zone::more_in_range;
 ghost use mathlib.Core.Path.{_≡_};
 ghost use mathlib.Core.Bool.{true};
 ghost use Prim.Native.Nat.{_<_};
 ghost use Rattle.zone.specs.Lists.{every, some};
 ghost use Rattle.zone.specs.Zones.{zoneOtherwiseSound, zoneSound, mended, holds};
 ghost use Rattle.card.specs.Answers.{outcomeSeen};
-ghost use Rattle.card.specs.Records.{emptyRecord, zoneAt, differ, otherwiseSound, sound, findOf};
-ghost use Rattle.card.specs.Calls.{addOf, removeOf, reportOf, applyOf, chooseSourceOf, setpointInUseOf, allMended, oldEndsFrom, toldAs, repairSeen, repairOf};
+ghost use Rattle.card.specs.Records.{emptyRecord, zoneAt, differ, otherwiseSound, sound, findOf, noZone};
+ghost use Rattle.card.specs.Calls.{addOf, removeOf, reportOf, applyOf, chooseSourceOf, setpointInUseOf, bookOf, shipOf, mergeOf, allMended, oldEndsFrom, toldAs, repairSeen, repairOf};
 ghost use Rattle.card.specs.Inner.{rangeAt, reachOf, verdictSeen, stored, askOf};
 
 pub struct Record {
@@ -69,8 +73,8 @@ impl Record {
         }
     }
 
-    // Every figure and the input of every present zone lie in their ranges, every window opens before
-    // it closes, addresses differ and absent zones are empty.
+    // Every figure, the input and the kilograms of every present zone lie in their ranges, every window
+    // opens before it closes, addresses differ and absent zones are empty.
     pub fn is_sound(self) -> bool
         ensures { λ r. ⌜ r ≡ sound self ⌝ }
     {
@@ -168,6 +172,17 @@ impl Record {
         z.range
     }
 
+    // The number names no zone, or an absent one.
+    fn is_missing(self, zone: usize) -> bool
+        ensures { λ r. ⌜ r ≡ noZone self zone ⌝ }
+    {
+        if 16 <= zone {
+            return true;
+        }
+        let z = self.zones[zone];
+        !z.present
+    }
+
     // The zone that a call is to work on.
     fn reach(self, zone: usize) -> Reached
         ensures { λ r. ⌜ r ≡ reachOf self zone ⌝ }
@@ -175,14 +190,10 @@ impl Record {
         if !self.is_sound() {
             return Reached::Stopped(Refusal::NotSound);
         }
-        if 16 <= zone {
+        if self.is_missing(zone) {
             return Reached::Stopped(Refusal::NoZone);
         }
-        let z = self.zones[zone];
-        if !z.present {
-            return Reached::Stopped(Refusal::NoZone);
-        }
-        Reached::There(z)
+        Reached::There(self.zones[zone])
     }
 
     // A refusal hands back the record it was given.
@@ -223,13 +234,14 @@ impl Record {
         self.changed(zone, added(z, address, range, self.is_held(address)))
     }
 
-    // The zone is emptied; its number and its address may be used again.
+    // The zone, on which no kilograms may stand, is emptied; its number and its address may be used
+    // again.
     pub fn remove(self, zone: usize) -> Outcome
         ensures { λ r. ⌜ outcomeSeen r ≡ removeOf self zone ⌝ }
     {
         match self.reach(zone) {
             Reached::Stopped(why) => self.refused(why),
-            Reached::There(_) => self.changed(zone, Verdict::Removes),
+            Reached::There(z) => self.changed(zone, removed(z)),
         }
     }
 
@@ -280,6 +292,49 @@ impl Record {
             Reached::Stopped(why) => self.refused(why),
             Reached::There(z) => self.changed(zone, in_use(z)),
         }
+    }
+
+    // An order reserves so many kilograms on the zone, on top of those that it holds.
+    pub fn book(self, zone: usize, kilograms: u32) -> Outcome
+        ensures { λ r. ⌜ outcomeSeen r ≡ bookOf self zone kilograms ⌝ }
+    {
+        match self.reach(zone) {
+            Reached::Stopped(why) => self.refused(why),
+            Reached::There(z) => self.changed(zone, booked(z, kilograms)),
+        }
+    }
+
+    // So many of the kilograms that the zone holds are shipped.
+    pub fn ship(self, zone: usize, kilograms: u32) -> Outcome
+        ensures { λ r. ⌜ outcomeSeen r ≡ shipOf self zone kilograms ⌝ }
+    {
+        match self.reach(zone) {
+            Reached::Stopped(why) => self.refused(why),
+            Reached::There(z) => self.changed(zone, shipped(z, kilograms)),
+        }
+    }
+
+    // Zone a is folded into zone b: all its kilograms move to b, and it is removed.
+    pub fn merge(self, a: usize, b: usize) -> Outcome
+        ensures { λ r. ⌜ outcomeSeen r ≡ mergeOf self a b ⌝ }
+    {
+        if !self.is_sound() {
+            return self.refused(Refusal::NotSound);
+        }
+        if self.is_missing(a) | self.is_missing(b) {
+            return self.refused(Refusal::NoZone);
+        }
+        if a == b {
+            return self.refused(Refusal::SameZone);
+        }
+        let from = self.zones[a];
+        let into = self.zones[b];
+        if !more_in_range(into.kilograms, from.kilograms) {
+            return self.refused(Refusal::BadAmount);
+        }
+        let booked = self.changed(b, Verdict::Holds(into.kilograms + from.kilograms));
+        let moved = booked.after;
+        moved.changed(a, Verdict::Removes)
     }
 
     // The zones whose window does not open before it closes, with its end.

@@ -47,6 +47,9 @@ refusal-below refusal.Locked = omega arith
 refusal-below refusal.AddressHeld = omega arith
 refusal-below refusal.AlreadyPresent = omega arith
 refusal-below refusal.Unreadable = omega arith
+refusal-below refusal.StillBooked = omega arith
+refusal-below refusal.BadAmount = omega arith
+refusal-below refusal.SameZone = omega arith
 
 pub number-below : (answer : Answer) → numberOf answer < 100
 number-below Done = omega arith

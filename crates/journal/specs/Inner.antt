@@ -110,7 +110,7 @@ askedFramed (Request address parsed) found = askedOfHolder found (askedBy parsed
 -- what an entry comes to at the zone that is looked at; `fit` says that the record is sound
 abbrev pub entryJudged : Bool → Entry → Found → Zone → Judgement
 entryJudged fit (Add n address range) found z = unless ((not fit gives 2) ∷ (leb 16 n gives 3) ∷ []) (addAt z address range (not (isNowhere found)))
-entryJudged fit (Remove n) found z = unless ((not fit gives 2) ∷ (missing z n gives 3) ∷ []) removeAt
+entryJudged fit (Remove n) found z = unless ((not fit gives 2) ∷ (missing z n gives 3) ∷ []) (removeAt z)
 entryJudged fit (Report n state actual) found z = unless ((not fit gives 2) ∷ (missing z n gives 3) ∷ []) (reportAt z state actual)
 entryJudged fit (Text n parsed) found z = unless ((not fit gives 2) ∷ []) (askAt z (askedOf z n parsed))
 entryJudged fit (Frame framed) found z = unless ((not fit gives 2) ∷ []) (askAt z (askedFramed framed found))

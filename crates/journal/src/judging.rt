@@ -6,6 +6,7 @@ use card::Refusal;
 use card::Verdict;
 use card::added;
 use card::heard;
+use card::removed;
 use card::reported;
 use frame::Framed;
 use wire::Parsed;
@@ -134,12 +135,12 @@ fn add_to(z: Zone, zone: usize, address: u32, range: u32, held: bool) -> Verdict
 }
 
 fn remove_from(z: Zone, zone: usize) -> Verdict
-    ensures { λ r. ⌜ card.verdictSeen z r ≡ card.judged z (steps.unless ((steps.missing z zone gives 3) ∷ []) removeAt) ⌝ }
+    ensures { λ r. ⌜ card.verdictSeen z r ≡ card.judged z (steps.unless ((steps.missing z zone gives 3) ∷ []) (removeAt z)) ⌝ }
 {
     if is_missing(z, zone) {
         return Verdict::Refuses(Refusal::NoZone);
     }
-    Verdict::Removes
+    removed(z)
 }
 
 fn report_to(z: Zone, zone: usize, state: u32, actual: u32) -> Verdict

@@ -15,9 +15,10 @@ use Rattle.card.specs.declared.records.Record.{Record}
 use Rattle.card.specs.Answers.{Result}
 use Rattle.card.specs.Refusals.{Row, first, settled}
 use Rattle.card.specs.Records.{zoneAt, withZone}
-use Rattle.card.specs.Calls.{addOf, removeOf, reportOf, applyOf, chooseSourceOf, setpointInUseOf, Repair, repairOf}
-use Rattle.card.specs.Rules.{InOrder, Keeps, ExactlyWhen}
-use Rattle.card.proofs.Kept.{add-order, remove-order, report-order, apply-order, write-order, choose-source-order, setpoint-in-use-order, add-exactly, remove-exactly, report-exactly, apply-exactly, choose-source-exactly, setpoint-in-use-exactly, add-keeps, remove-keeps, report-keeps, apply-keeps, choose-source-keeps, setpoint-in-use-keeps}
+use Rattle.card.specs.Calls.{addOf, removeOf, reportOf, applyOf, chooseSourceOf, setpointInUseOf, bookOf, shipOf, mergeOf, Repair, repairOf}
+use Rattle.card.specs.Rules.{InOrder, KeepsBesides, ExactlyWhen}
+use Rattle.card.proofs.Kept.{add-order, remove-order, report-order, apply-order, write-order, choose-source-order, setpoint-in-use-order, book-order, ship-order, merge-order, add-exactly, remove-exactly, report-exactly, apply-exactly, choose-source-exactly, setpoint-in-use-exactly, book-exactly, ship-exactly, merge-exactly, add-keeps, remove-keeps, report-keeps, apply-keeps, choose-source-keeps, setpoint-in-use-keeps, book-keeps, ship-keeps}
+use Rattle.card.proofs.Merging.{merge-keeps}
 use Rattle.card.proofs.Repairs.{repair-order, repair-exactly, repair-not-done}
 use Rattle.wire.specs.Road.{carriesCommand}
 use Rattle.wire.specs.Room.{filled}
@@ -27,7 +28,7 @@ use Rattle.roads.specs.Acknowledgements.{textRefusal, textReply, frameRefusal, 
 use Rattle.roads.specs.Calls.{Answered, said, tooSmall, parsedAt, textRows, textResult, inTextReply, answerText, zoneFound, holder, frameRows, frameResult, inFrameReply, answerFrame, composeRows, composed, composedLine, composedFrame}
 use Rattle.roads.proofs.Lengths.{either, text-fits, frame-fits, line-fits, whole-frame-fits, room-kept}
 use Rattle.roads.proofs.Exactly.{text-order, frame-order, compose-order, write-line-order, write-frame-order, text-exactly, frame-exactly, compose-line-exactly, compose-frame-exactly}
-use Rattle.session.specs.Sessions.{text, frame, composeLine, composeFrame, add, remove, report, apply, chooseSource, setpointInUse, repair, Call, inRoom, quiet, answerTo, Done}
+use Rattle.session.specs.Sessions.{text, frame, composeLine, composeFrame, add, remove, report, apply, chooseSource, setpointInUse, book, ship, merge, repair, Call, inRoom, quiet, answerTo, Done}
 use Rattle.session.specs.Demands.{order, refusals, among, lent, fixed, EveryCallAnswers, WritesHaveTheWholeOrder, CallsHaveTheWholeOrder}
 
 -- ---- the first in the printed order
@@ -65,10 +66,13 @@ in-order r (quiet (report n state actual)) = report-order r n state actual
 in-order r (quiet (apply n c)) = apply-order r n c
 in-order r (quiet (chooseSource n source millivolts)) = choose-source-order r n source millivolts
 in-order r (quiet (setpointInUse n)) = setpoint-in-use-order r n
+in-order r (quiet (book n kg)) = book-order r n kg
+in-order r (quiet (ship n kg)) = ship-order r n kg
+in-order r (quiet (merge a b)) = merge-order r a b
 in-order r (quiet repair) = repair-order r
 
 first-given : (r : Record) (call : Call) → answerTo r call .said .number ≡ first (refusals r call)
-unfolding answerText answerFrame addOf removeOf reportOf applyOf chooseSourceOf setpointInUseOf repairOf composedLine composedFrame
+unfolding answerText answerFrame addOf removeOf reportOf applyOf chooseSourceOf setpointInUseOf bookOf shipOf mergeOf repairOf composedLine composedFrame
 first-given r (inRoom (text n line) room) = refl
 first-given r (inRoom (frame bytes) room) = refl
 first-given r (inRoom (composeLine c) room) = refl
@@ -79,6 +83,9 @@ first-given r (quiet (report n state actual)) = refl
 first-given r (quiet (apply n c)) = refl
 first-given r (quiet (chooseSource n source millivolts)) = refl
 first-given r (quiet (setpointInUse n)) = refl
+first-given r (quiet (book n kg)) = refl
+first-given r (quiet (ship n kg)) = refl
+first-given r (quiet (merge a b)) = refl
 first-given r (quiet repair) = refl
 
 exactly : (r : Record) (call : Call) → ExactlyWhen (refusals r call) (answerTo r call .said .number)
@@ -92,6 +99,9 @@ exactly r (quiet (report n state actual)) = report-exactly r n state actual
 exactly r (quiet (apply n c)) = apply-exactly r n c
 exactly r (quiet (chooseSource n source millivolts)) = choose-source-exactly r n source millivolts
 exactly r (quiet (setpointInUse n)) = setpoint-in-use-exactly r n
+exactly r (quiet (book n kg)) = book-exactly r n kg
+exactly r (quiet (ship n kg)) = ship-exactly r n kg
+exactly r (quiet (merge a b)) = merge-exactly r a b
 exactly r (quiet repair) = repair-exactly r
 
 pub whole-order : WritesHaveTheWholeOrder
@@ -104,6 +114,9 @@ whole-order-quiet r (report n state actual) u = report-order r n state actual
 whole-order-quiet r (apply n c) u = absurd (u n c refl)
 whole-order-quiet r (chooseSource n source millivolts) u = choose-source-order r n source millivolts
 whole-order-quiet r (setpointInUse n) u = setpoint-in-use-order r n
+whole-order-quiet r (book n kg) u = book-order r n kg
+whole-order-quiet r (ship n kg) u = ship-order r n kg
+whole-order-quiet r (merge a b) u = merge-order r a b
 whole-order-quiet r repair u = repair-order r
 
 -- ---- a refusal
@@ -143,7 +156,7 @@ frame-refused r bytes room u =
     ∙ ap (λ (reply : List ℕ). refusedWith r (first rows) reply room) (frame-fixed (addressIn bytes) (first rows) u)
 
 -- a call that replies nothing, by what it keeps
-kept : {n : ℕ} (r : Record) (o : Result Record) → Keeps r n o → (o .number ≡ 0 → ⊥) → record { said = said (o .number) (o .values) [] []; after = o .after } ≡ refusedWith r (o .number) [] []
+kept : {touched : ℕ → Type 0} (r : Record) (o : Result Record) → KeepsBesides r touched o → (o .number ≡ 0 → ⊥) → record { said = said (o .number) (o .values) [] []; after = o .after } ≡ refusedWith r (o .number) [] []
 kept r o k u = rw (k .refusal u .0, k .refusal u .1)
 
 refused : (r : Record) (call : Call) → (Done r call → ⊥) → answerTo r call ≡ refusedWith r (answerTo r call .said .number) (fixed call (answerTo r call .said .number)) (lent call)
@@ -158,6 +171,9 @@ refused r (quiet (report n state actual)) u = kept r (reportOf r n state actual)
 refused r (quiet (apply n c)) u = kept r (applyOf r n c) (apply-keeps r n c) u
 refused r (quiet (chooseSource n source millivolts)) u = kept r (chooseSourceOf r n source millivolts) (choose-source-keeps r n source millivolts) u
 refused r (quiet (setpointInUse n)) u = kept r (setpointInUseOf r n) (setpoint-in-use-keeps r n) u
+refused r (quiet (book n kg)) u = kept r (bookOf r n kg) (book-keeps r n kg) u
+refused r (quiet (ship n kg)) u = kept r (shipOf r n kg) (ship-keeps r n kg) u
+refused r (quiet (merge a b)) u = kept r (mergeOf r a b) (merge-keeps r a b) u
 refused r (quiet repair) u = let e = repair-not-done r u in rw (ap (λ (o : Repair). o .result .after) e, ap (λ (o : Repair). o .result .values) e)
 
 -- ---- the room keeps its length

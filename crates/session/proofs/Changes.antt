@@ -1,8 +1,10 @@
--- What a call does to a zone: nothing, or what a done write, report, removal, addition, choice of a source or repair sets. Assumes nothing.
-use Prim.Native.Nat.{ℕ}
+-- What a call does to a zone: nothing, or what a done write, report, removal, addition, choice of a source, booking, shipment, merging or repair sets. Assumes nothing.
+use Prim.Native.Nat.{ℕ, _+_, _-_}
 use mathlib.Core.Path.{_≡_, refl, sym, ap, _∙_, subst}
+use mathlib.Core.Logic.{_⊎_, inl, inr}
 use mathlib.Core.Bool.{Bool, true, false, cond}
 use mathlib.Core.List.{List}
+use native.Mathlib.Omega.{arith}
 use lib.Dec.{eqb}
 use lib.Seq.{getD-set-other}
 use borrow.Author.Tests.{eqb-true, eqb-false}
@@ -15,24 +17,25 @@ use Rattle.zone.specs.declared.sources.Source.{Source}
 use Rattle.zone.specs.declared.zones.Zone.{Zone}
 use Rattle.zone.specs.Lists.{isZero}
 use Rattle.zone.specs.Zones.{newZone, emptyZone, stateNumbered, opened}
-use Rattle.zone.specs.Rules.{SetsFigures, SetsStatus, SetsOrigin}
+use Rattle.zone.specs.Rules.{SetsFigures, SetsStatus, SetsOrigin, SetsKilograms}
 use Rattle.zone.proofs.Mended.{by-window, not-shut}
 use Rattle.card.specs.declared.records.Record.{Record}
 use Rattle.card.specs.Answers.{Result}
 use Rattle.card.specs.declared.records.Found.the-variants.{At}
 use Rattle.card.specs.Records.{zoneAt, withZone, findOf}
 use Rattle.card.specs.Calls.{addOf, applyOf}
-use Rattle.card.proofs.Kept.{add-exactly, add-keeps, remove-keeps, report-keeps, apply-keeps, choose-source-keeps}
+use Rattle.card.proofs.Kept.{add-exactly, add-keeps, remove-keeps, report-keeps, apply-keeps, choose-source-keeps, book-keeps, ship-keeps}
 use Rattle.card.proofs.Found.{find-own}
 use Rattle.card.proofs.Repairs.{repair-done, shut-present, repair-mends}
-use Rattle.card.proofs.Sets.{remove-at-zone, report-at-zone, write-at-zone, choose-source-at-zone, add-sets, remove-sets, report-sets, write-sets, choose-source-sets, read-alters-nothing, setpoint-in-use-alters-nothing}
+use Rattle.card.proofs.Sets.{remove-at-zone, report-at-zone, write-at-zone, choose-source-at-zone, book-at-zone, ship-at-zone, add-sets, remove-sets, report-sets, write-sets, choose-source-sets, book-sets, ship-sets, ship-held, read-alters-nothing, setpoint-in-use-alters-nothing}
+use Rattle.card.proofs.Merging.{merge-at-zones, merge-folds}
 use Rattle.wire.specs.declared.Parsed.the-variants.{Known}
 use Rattle.line.specs.Line.{lineRead}
 use Rattle.frame.specs.declared.reading.Framed.the-variants.{Request}
 use Rattle.frame.specs.Frame.{addressIn, frameRead}
 use Rattle.roads.specs.Calls.{textResult, answerText, frameResult, answerFrame}
-use Rattle.session.specs.Sessions.{text, frame, composeLine, composeFrame, add, remove, report, apply, chooseSource, setpointInUse, repair, Call, inRoom, quiet, after, Done}
-use Rattle.session.specs.Changes.{Writes, by-apply, by-line, by-frame, Reports, reported, Removes, removed, Adds, added, Chooses, chosen, Repairs, repaired, WhatIsDoneIsSet, Becomes, stays, written, was-reported, was-removed, was-added, was-chosen, was-mended, EveryZoneBecomes}
+use Rattle.session.specs.Sessions.{text, frame, composeLine, composeFrame, add, remove, report, apply, chooseSource, setpointInUse, book, ship, merge, repair, Call, inRoom, quiet, after, Done}
+use Rattle.session.specs.Changes.{Writes, by-apply, by-line, by-frame, Reports, reported, Merges, merged, Removes, removed, merged-away, Adds, added, Chooses, chosen, Rebooks, booked, shipped, moved-in, Repairs, repaired, WhatIsDoneIsSet, Becomes, stays, written, was-reported, was-removed, was-added, was-chosen, was-rebooked, was-mended, EveryZoneBecomes}
 use Rattle.session.proofs.Answering.{record-kept, by-done}
 use Rattle.session.proofs.Done.{Applied, line-is-done, frame-is-done}
 
@@ -111,6 +114,18 @@ repair-becomes r n d =
     (λ w. stays (repair-mends r (repair-done r d) .others n (λ f s. not-shut (zoneAt r n) f w s)))
     (λ f s. was-mended f (repaired d s) (shut-present r n f d s) (repair-mends r (repair-done r d) .ends n f s))
 
+-- a done merging empties zone a, moves its kilograms to b, and leaves the others
+merge-becomes : (r : Record) (a b n : ℕ) → Done r (quiet (merge a b)) → Becomes r n (quiet (merge a b)) (zoneAt (after r (quiet (merge a b))) n)
+merge-becomes r a b n d =
+    let f = merge-folds r a b d in
+    let k = merge-at-zones r a b d in
+    let at : ℕ → Type 0 = λ m. Becomes r m (quiet (merge a b)) (zoneAt (after r (quiet (merge a b))) m) in
+    by-zone n a
+    (λ e. subst at (sym e) (was-removed (merged-away b (merged d)) (k .present-a) (f .removed .zone)))
+    (λ u. by-zone n b
+    (λ e. subst at (sym e) (was-rebooked (zoneAt r b .kilograms + zoneAt r a .kilograms) (moved-in a (merged d) refl) (k .present-b) (f .moved)))
+    (λ v. stays (f .others n u v)))
+
 pub becomes : EveryZoneBecomes
 becomes r (inRoom (text m line) room) n = text-becomes r m line room n
 becomes r (inRoom (frame bytes) room) n = frame-becomes r bytes room n
@@ -127,6 +142,11 @@ becomes r (quiet (chooseSource m source millivolts)) n =
     at-zone r (quiet (chooseSource m source millivolts)) m n (choose-source-keeps r m source millivolts .others)
     (λ d. was-chosen source millivolts (chosen d) (choose-source-at-zone r m source millivolts d .present) (choose-source-sets r m source millivolts d))
 becomes r (quiet (setpointInUse m)) n = stays (ap (λ (s : Record). zoneAt s n) (setpoint-in-use-alters-nothing r m))
+becomes r (quiet (book m kg)) n =
+    at-zone r (quiet (book m kg)) m n (book-keeps r m kg .others) (λ d. was-rebooked (zoneAt r m .kilograms + kg) (booked kg d refl) (book-at-zone r m kg d .present) (book-sets r m kg d))
+becomes r (quiet (ship m kg)) n =
+    at-zone r (quiet (ship m kg)) m n (ship-keeps r m kg .others) (λ d. was-rebooked (zoneAt r m .kilograms - kg) (shipped kg d (omega (arith, ship-held r m kg d))) (ship-at-zone r m kg d .present) (ship-sets r m kg d))
+becomes r (quiet (merge a b)) n = by-done r (quiet (merge a b)) (merge-becomes r a b n) (λ u. stays (ap (λ (s : Record). zoneAt s n) (record-kept r (quiet (merge a b)) u)))
 becomes r (quiet repair) n = by-done r (quiet repair) (repair-becomes r n) (λ u. stays (ap (λ (s : Record). zoneAt s n) (record-kept r (quiet repair) u)))
 
 -- ---- what is done is set
@@ -168,6 +188,7 @@ status-set r call n state actual (reported d) = report-sets r n state actual d
 
 emptied : (r : Record) (call : Call) (n : ℕ) → Removes n r call → zoneAt (after r call) n ≡ emptyZone
 emptied r call n (removed d) = remove-sets r n d
+emptied r call n (merged-away b (merged d)) = merge-folds r n b d .removed .zone
 
 made-new : (r : Record) (call : Call) (n address range : ℕ) → Adds n address range r call → zoneAt (after r call) n ≡ newZone address range
 made-new r call n address range (added d) = add-sets r n address range d
@@ -176,8 +197,13 @@ origin-set : (r : Record) (call : Call) (n : ℕ) (source : Source) (millivolts 
     → SetsOrigin (zoneAt r n) (record { source = source; millivolts = millivolts }) (zoneAt (after r call) n)
 origin-set r call n source millivolts (chosen d) = choose-source-sets r n source millivolts d
 
+kilograms-set : (r : Record) (call : Call) (n kg : ℕ) → Rebooks n kg r call → SetsKilograms (zoneAt r n) kg (zoneAt (after r call) n)
+kilograms-set r call n kg (booked amount d e) = rw e (book-sets r n amount d)
+kilograms-set r call n kg (shipped amount d e) = let left : kg ≡ zoneAt r n .kilograms - amount = omega (arith, e) in rw left (ship-sets r n amount d)
+kilograms-set r call n kg (moved-in a (merged d) e) = rw e (merge-folds r a n d .moved)
+
 end-set : (r : Record) (call : Call) (n : ℕ) (f : WindowFigures) → Repairs n f r call → SetsFigures (zoneAt r n) (AhueWindow (opened f)) (zoneAt (after r call) n)
 end-set r call n f (repaired d s) = repair-mends r (repair-done r d) .ends n f s
 
 pub sets : WhatIsDoneIsSet
-sets r call n = record { figures-set = figures-set r call n; status-set = status-set r call n; emptied = emptied r call n; made-new = made-new r call n; origin-set = origin-set r call n; end-set = end-set r call n }
+sets r call n = record { figures-set = figures-set r call n; status-set = status-set r call n; emptied = emptied r call n; made-new = made-new r call n; origin-set = origin-set r call n; kilograms-set = kilograms-set r call n; end-set = end-set r call n }

@@ -15,18 +15,19 @@ use Rattle.card.specs.declared.records.Found.{Found}
 use Rattle.card.specs.declared.records.Found.the-variants.{At, Nowhere}
 use Rattle.card.specs.Refusals.{Row, _gives_}
 use Rattle.card.specs.Records.{zoneAt, sound, findOf, noZone}
-use Rattle.card.specs.Calls.{removeOf, reportOf, applyOf, chooseSourceOf, setpointInUseOf}
-use Rattle.card.proofs.Kept.{remove-keeps}
-use Rattle.card.proofs.Sets.{remove-at-zone, remove-sets, remove-frees}
+use Rattle.card.specs.Calls.{removeOf, reportOf, applyOf, chooseSourceOf, setpointInUseOf, bookOf, shipOf, mergeOf}
+use Rattle.card.specs.Rules.{Frees}
+use Rattle.card.proofs.Sets.{remove-at-zone, remove-frees}
+use Rattle.card.proofs.Merging.{merge-at-zones, merge-folds}
 use Rattle.card.proofs.Scans.{found-somewhere}
 use Rattle.card.proofs.Found.{found-nowhere}
 use Rattle.frame.specs.Frame.{addressIn, bodyIn, shaped, checksumRight, bodyRead}
 use Rattle.roads.specs.Acknowledgements.{textReply, frameReply}
 use Rattle.roads.specs.Calls.{Answered, tooSmall, parsedRows, answerText, holder, resultAt, inFrameReply, answerFrame}
-use Rattle.session.specs.Sessions.{Quiet, remove, Call, quiet, answerTo, after, Done, run, Throughout}
-use Rattle.session.specs.Changes.{Becomes, stays, written, was-reported, was-removed, was-added, was-chosen, was-mended, Adds, NotAdded, NotGiven}
-use Rattle.session.specs.Demands.{StaysEmpty, StaysRemoved, MeetsSilence, refusedSilently, PointsAt, applies, reports, removes, chooses, asks, RemovedStaysGone}
-use Rattle.session.proofs.Changes.{becomes}
+use Rattle.session.specs.Sessions.{Quiet, Call, quiet, answerTo, after, run, Throughout}
+use Rattle.session.specs.Changes.{Becomes, stays, written, was-reported, was-removed, was-added, was-chosen, was-rebooked, was-mended, Removes, removed, merged-away, merged, Adds, NotAdded, NotGiven}
+use Rattle.session.specs.Demands.{StaysEmpty, StaysRemoved, MeetsSilence, refusedSilently, PointsAt, applies, reports, removes, chooses, asks, books, ships, merges, merges-into, RemovedStaysGone}
+use Rattle.session.proofs.Changes.{becomes, sets}
 use Rattle.session.proofs.Demand3.{stays-sound}
 
 -- ---- a removed zone stays empty
@@ -45,6 +46,7 @@ one-kept r n call e u = by-change (becomes r call n)
     by-change (was-removed w p s) = s
     by-change (was-added address range w p s) = absurd (u address range w)
     by-change (was-chosen source millivolts w p s) = absent-here e p
+    by-change (was-rebooked kilograms w p s) = absent-here e p
     by-change (was-mended window w p s) = absent-here e p
 
 pub stays-empty : StaysEmpty
@@ -52,7 +54,7 @@ stays-empty r n [] e u = e
 stays-empty r n (call ∷ calls) e u = stays-empty (after r call) n calls (one-kept r n call e (u .0)) (u .1)
 
 pub stays-removed : StaysRemoved
-stays-removed r n calls d u = stays-empty (after r (quiet (remove n))) n calls (remove-sets r n d) u
+stays-removed r n removal calls w u = stays-empty (after r removal) n calls (sets r removal n .emptied w) u
 
 -- ---- an address that nobody holds
 
@@ -113,6 +115,7 @@ one-unheld a r call h u m = by-change (becomes r call m)
     by-change {z} (was-reported state actual w p s) = same-holder a (zoneAt r m) z (s .head) (h m)
     by-change (was-removed w p s) = rw s
     by-change {z} (was-chosen source millivolts w p s) = same-holder a (zoneAt r m) z (s .head) (h m)
+    by-change {z} (was-rebooked kilograms w p s) = same-holder a (zoneAt r m) z (s .head) (h m)
     by-change {z} (was-mended window w p s) = same-holder a (zoneAt r m) z (s .head) (h m)
     by-change (was-added b range w p s) = rw s (by-address (eqb b a) refl)
       where
@@ -124,18 +127,27 @@ stays-unheld : (a : ℕ) (r : Record) (calls : List Call) → Unheld a r → Thr
 stays-unheld a r [] h u = h
 stays-unheld a r (call ∷ calls) h u = stays-unheld a (after r call) calls (one-unheld a r call h (u .0)) (u .1)
 
--- nobody holds it once its zone is gone
-removed-unheld : (r : Record) (n : ℕ) → Done r (quiet (remove n)) → Unheld (zoneAt r n .address) (after r (quiet (remove n)))
-removed-unheld r n d = found-nowhere gone a .0 (by-found (findOf gone a) refl)
+-- a zone that is removed was one of a sound record, and is set free
+pub removal-sound : (r : Record) (n : ℕ) (removal : Call) → Removes n r removal → sound r ≡ true
+removal-sound r n removal (removed d) = remove-at-zone r n d .sound-record
+removal-sound r n removal (merged-away b (merged d)) = merge-at-zones r n b d .sound-record
+
+removal-frees : (r : Record) (n : ℕ) (removal : Call) → Removes n r removal → Frees r n (after r removal)
+removal-frees r n removal (removed d) = remove-frees r n d
+removal-frees r n removal (merged-away b (merged d)) = merge-folds r n b d .removed
+
+-- nobody holds its address once it is gone
+removed-unheld : (r : Record) (n : ℕ) (removal : Call) → Removes n r removal → Unheld (zoneAt r n .address) (after r removal)
+removed-unheld r n removal w = found-nowhere gone a .0 (by-found (findOf gone a) refl)
   where
     gone : Record
-    gone = after r (quiet (remove n))
+    gone = after r removal
 
     a : ℕ
     a = zoneAt r n .address
 
     by-found : (f : Found) → findOf gone a ≡ f → findOf gone a ≡ Nowhere
-    by-found (At m) e = never (sym (remove-frees r n d .unheld) ∙ sym (found-somewhere (gone .zones) a m e))
+    by-found (At m) e = never (sym (removal-frees r n removal w .unheld) ∙ sym (found-somewhere (gone .zones) a m e))
     by-found Nowhere e = e
 
 -- ---- every call that still points at a removed zone is refused in silence
@@ -147,22 +159,26 @@ text-three : (r : Record) (n : ℕ) (line room : List ℕ) → sound r ≡ true 
 unfolding answerText textReply
 text-three r n line room s e h = rw (le-ltb (length room) 32 h, s, absent r n e)
 
-call-three : (r : Record) (n : ℕ) (call : Quiet) → sound r ≡ true → zoneAt r n ≡ emptyZone → PointsAt n call → answerTo r (quiet call) ≡ refusedSilently 3 r []
-unfolding applyOf reportOf removeOf chooseSourceOf setpointInUseOf
+pub call-three : (r : Record) (n : ℕ) (call : Quiet) → sound r ≡ true → zoneAt r n ≡ emptyZone → PointsAt n call → answerTo r (quiet call) ≡ refusedSilently 3 r []
+unfolding applyOf reportOf removeOf chooseSourceOf setpointInUseOf bookOf shipOf mergeOf
 call-three r n call s e (applies command) = rw (s, absent r n e)
 call-three r n call s e (reports state actual) = rw (s, absent r n e)
 call-three r n call s e removes = rw (s, absent r n e)
 call-three r n call s e (chooses source millivolts) = rw (s, absent r n e)
 call-three r n call s e asks = rw (s, absent r n e)
+call-three r n call s e (books kilograms) = rw (s, absent r n e)
+call-three r n call s e (ships kilograms) = rw (s, absent r n e)
+call-three r n call s e (merges b) = rw (s, absent r n e)
+call-three r n call s e (merges-into a) = rw (s, absent r n e) (rw (or-true (noZone r a)))
 
 pub stays-gone : RemovedStaysGone
-stays-gone r n calls room d h =
-    let gone = after r (quiet (remove n)) in
-    let s = stays-sound gone calls (remove-keeps r n .stays (remove-at-zone r n d .sound-record)) in
+stays-gone r n removal calls room w h =
+    let gone = after r removal in
+    let s = stays-sound r (removal ∷ calls) (removal-sound r n removal w) in
     record {
-      by-line = λ u line. text-three (run gone calls) n line room s (stays-removed r n calls d u) h;
+      by-line = λ u line. text-three (run gone calls) n line room s (stays-removed r n removal calls w u) h;
       by-frame = λ u bytes k a.
-          let nobody = found-nowhere (run gone calls) (addressIn bytes) .1 (rw a (stays-unheld (zoneAt r n .address) gone calls (removed-unheld r n d) u)) in
+          let nobody = found-nowhere (run gone calls) (addressIn bytes) .1 (rw a (stays-unheld (zoneAt r n .address) gone calls (removed-unheld r n removal w) u)) in
           unheld-five (run gone calls) bytes room nobody h s k;
-      by-call = λ u call p. call-three (run gone calls) n call s (stays-removed r n calls d u) p;
+      by-call = λ u call p. call-three (run gone calls) n call s (stays-removed r n removal calls w u) p;
     }

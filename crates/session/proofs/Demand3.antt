@@ -20,7 +20,8 @@ use Rattle.card.specs.Answers.{Result}
 use Rattle.card.specs.Records.{zoneAt, sound}
 use Rattle.card.specs.Calls.{commandAt, Repair}
 use Rattle.card.specs.Rules.{rowAt}
-use Rattle.card.proofs.Kept.{add-keeps, remove-keeps, report-keeps, apply-keeps, choose-source-keeps, setpoint-in-use-keeps}
+use Rattle.card.proofs.Kept.{add-keeps, remove-keeps, report-keeps, apply-keeps, choose-source-keeps, setpoint-in-use-keeps, book-keeps, ship-keeps}
+use Rattle.card.proofs.Merging.{merge-keeps}
 use Rattle.card.proofs.Storing.{zone-sound}
 use Rattle.card.proofs.Repairs.{repair-of-sound}
 use Rattle.wire.specs.Road.{carried, carries, carriesCommand}
@@ -31,7 +32,7 @@ use Rattle.frame.proofs.Round.{frame-only}
 use Rattle.roads.specs.Calls.{textResult, answerText, frameResult, answerFrame}
 use Rattle.roads.proofs.Applied.{text-applies, frame-applies}
 use Rattle.roads.proofs.Replies.{in-range-both}
-use Rattle.session.specs.Sessions.{text, frame, composeLine, composeFrame, add, remove, report, apply, chooseSource, setpointInUse, repair, Call, inRoom, quiet, answerTo, after, Done, runBy}
+use Rattle.session.specs.Sessions.{text, frame, composeLine, composeFrame, add, remove, report, apply, chooseSource, setpointInUse, book, ship, merge, repair, Call, inRoom, quiet, answerTo, after, Done, runBy}
 use Rattle.session.specs.Demands.{bothCarry, bothBound, BothBounds, BothCarried, Present, SameByBoth, StaysSound, OnlyLines, OnlyFrames, OtherRoad, by-frame, by-text, Rerouted, over, as-before, other-road, SameEnd}
 use Rattle.session.proofs.Answering.{record-kept, by-done}
 use Rattle.session.proofs.Done.{Applied, line-is-done, frame-is-done}
@@ -161,6 +162,9 @@ one-sound r (quiet (report n state actual)) s = report-keeps r n state actual .s
 one-sound r (quiet (apply n c)) s = apply-keeps r n c .stays s
 one-sound r (quiet (chooseSource n source millivolts)) s = choose-source-keeps r n source millivolts .stays s
 one-sound r (quiet (setpointInUse n)) s = setpoint-in-use-keeps r n .stays s
+one-sound r (quiet (book n kg)) s = book-keeps r n kg .stays s
+one-sound r (quiet (ship n kg)) s = ship-keeps r n kg .stays s
+one-sound r (quiet (merge a b)) s = merge-keeps r a b .stays s
 one-sound r (quiet repair) s = ap (λ (o : Repair). sound (o .result .after)) (repair-of-sound r s) ∙ s
 
 pub stays-sound : StaysSound
@@ -177,7 +181,7 @@ module _ {C : Type 0} (step : Record → C → Record) (Other : Record → C →
   ends-alike {r} (other-road {xs = xs} {ys = ys} x y o rest) = ends-alike rest ∙ ap (λ (s : Record). runBy step s ys) (same r x y o)
 
 -- the one lemma for lines and frames
-same-record : (r : Record) (x y : Call) → OtherRoad r x y → after r x ≡ after r y
+pub same-record : (r : Record) (x y : Call) → OtherRoad r x y → after r x ≡ after r y
 same-record r x y (by-frame n c room room′ p k h h′) = same-by-both r n c room room′ p k h h′ .same-record
 same-record r x y (by-text n c room room′ p k h h′) = sym (same-by-both r n c room′ room p k h′ h .same-record)
 

@@ -28,7 +28,7 @@ use Rattle.card.proofs.Found.{present-below}
 use Rattle.card.proofs.Sets.{write-at-zone, choose-source-at-zone, choose-source-sets, add-sets, read-tells, setpoint-in-use-tells}
 use Rattle.roads.specs.Calls.{Answered, said}
 use Rattle.session.specs.Sessions.{setpointInUse, Call, quiet, answerTo, after}
-use Rattle.session.specs.Changes.{Writes, by-apply, by-line, by-frame, Becomes, stays, written, was-reported, was-removed, was-added, was-chosen, was-mended}
+use Rattle.session.specs.Changes.{Writes, by-apply, by-line, by-frame, Becomes, stays, written, was-reported, was-removed, was-added, was-chosen, was-rebooked, was-mended}
 use Rattle.session.specs.Demands.{Present, later}
 use Rattle.session.specs.Sources.{InUse, AtVoltage, AsLsolw, SetpointInUse, NeverFalls, ChoicesAreJudged, EveryChoiceCounts, SolwCounts, NotRechosen, StaysChosen, StartsAnew}
 use Rattle.session.proofs.Changes.{becomes, sets}
@@ -174,13 +174,14 @@ one-kept n r call p u = by-change (becomes r call n)
     by-change (was-removed w q s) = absurd (u .not-removed w)
     by-change (was-added address range w q s) = never (sym q ∙ p)
     by-change (was-chosen chosen millivolts w q s) = absurd (u .not-chosen chosen millivolts w)
+    by-change (was-rebooked kilograms w q s) = record { present = s .head .present ∙ p; same = s .origin }
     by-change (was-mended window w q s) = record { present = s .head .present ∙ p; same = s .origin }
 
 pub stays-chosen : StaysChosen
 stays-chosen r n calls p u = kept-throughout (λ z. z .origin) n (NotRechosen n) (one-kept n) r calls p u
 
 pub starts-anew : StartsAnew
-starts-anew r n calls d u = record {
-  absent = ap (λ (z : Zone). z .origin) (stays-removed r n calls d u);
-  added = λ address range e. ap (λ (z : Zone). z .origin) (add-sets (later r n calls) n address range e);
+starts-anew r n removal calls w u = record {
+  absent = ap (λ (z : Zone). z .origin) (stays-removed r n removal calls w u);
+  added = λ address range e. ap (λ (z : Zone). z .origin) (add-sets (later r removal calls) n address range e);
 }

@@ -1,11 +1,11 @@
 -- What is answered to all calls but those of Req 08 does not hang on the sources: two sound records that differ in source and input alone are answered alike, and left so. Assumes nothing.
-use Prim.Native.Nat.{ℕ}
+use Prim.Native.Nat.{ℕ, _+_}
 use mathlib.Core.Path.{_≡_, refl, sym, ap, _∙_}
 use mathlib.Core.Bool.{Bool, true, false, cond, not, _&&_, _||_}
 use mathlib.Core.List.{List, [], _∷_, map}
 use lib.ListN.{set, length-map, List·getD-map}
 use lib.Seq.{ext-getD, map-set-same}
-use lib.Dec.{leb}
+use lib.Dec.{leb, eqb}
 use Rattle.zone.specs.declared.figures.Figures.{Figures}
 use Rattle.zone.specs.declared.figures.Figures.the-variants.{AhueDeadline, AhueWindow, HzbgLimit, RrueReference, SolwSetpoint}
 use Rattle.zone.specs.declared.figures.Command.{Command}
@@ -14,14 +14,14 @@ use Rattle.zone.specs.declared.sources.Source.{Source}
 use Rattle.zone.specs.declared.zones.Zone.{Zone}
 use Rattle.zone.specs.Lists.{isZero}
 use Rattle.zone.specs.Sources.{newOrigin}
-use Rattle.zone.specs.Zones.{emptyZone, addressInRange, rangeKnown, withFigures, withOrigin}
+use Rattle.zone.specs.Zones.{emptyZone, addressInRange, rangeKnown, bookingInRange, withFigures, withOrigin, withKilograms}
 use Rattle.zone.proofs.Tests.{never}
 use Rattle.zone.proofs.Written.{same-groups}
 use Rattle.card.specs.declared.records.Record.{Record}
 use Rattle.card.specs.Answers.{Result}
 use Rattle.card.specs.Refusals.{Row, _gives_, first, settled}
 use Rattle.card.specs.Records.{zoneAt, withZone, heldIn, sound, findOf, noZone}
-use Rattle.card.specs.Calls.{Judgement, zoneRows, atZone, addAt, addOf, removeAt, removeOf, reportAt, reportOf, commandAt, applyOf, chooseSourceAt, chooseSourceOf, Repair}
+use Rattle.card.specs.Calls.{Judgement, zoneRows, atZone, addAt, addOf, removeAt, removeOf, reportAt, reportOf, commandAt, applyOf, chooseSourceAt, chooseSourceOf, bookAt, bookOf, shipAt, shipOf, together, mergeRows, merged, mergeOf, Repair}
 use Rattle.card.proofs.Storing.{sound-parts}
 use Rattle.card.proofs.Mapped.{mapped, mapped-set, held-mapped, find-mapped}
 use Rattle.card.proofs.Sets.{setpoint-in-use-alters-nothing}
@@ -32,7 +32,7 @@ use Rattle.line.specs.Line.{lineRead}
 use Rattle.frame.specs.Frame.{addressIn, bodyIn, shaped, checksumRight, bodyRead}
 use Rattle.roads.specs.Acknowledgements.{textReply, frameReply}
 use Rattle.roads.specs.Calls.{said, tooSmall, isUnknown, isSyntax, parsedAt, textResult, answerText, placeBy, textPlace, isNowhere, zoneFound, holder, frameResult, answerFrame}
-use Rattle.session.specs.Sessions.{text, frame, composeLine, composeFrame, Quiet, add, remove, report, apply, chooseSource, setpointInUse, repair, Call, inRoom, quiet, answerTo, after, resultOf, run}
+use Rattle.session.specs.Sessions.{text, frame, composeLine, composeFrame, Quiet, add, remove, report, apply, chooseSource, setpointInUse, book, ship, merge, repair, Call, inRoom, quiet, answerTo, after, resultOf, run}
 use Rattle.session.specs.Sources.{quietOfSource, ofSource, struck, otherAnswers, Alike, SourcesAreUnseen}
 use Rattle.session.proofs.Demand3.{stays-sound}
 
@@ -103,29 +103,34 @@ record Seen (o o′ : Result Record) : Type 0 where
   left : mapped plain (o .after) ≡ mapped plain (o′ .after)
 
 module _ {r r′ : Record} (a : Alike r r′) where
+  -- by the same refusals, with the same values, and to records of which the same is left
+  settled-seen : (rows rows′ : List Row) (values values′ : List Figures) (next next′ : Record) → rows ≡ rows′ → values ≡ values′ → mapped plain next ≡ mapped plain next′
+      → Seen (settled r rows values next) (settled r′ rows′ values′ next′)
+  settled-seen rows rows′ values values′ next next′ e v l = record {
+    number = ap first e;
+    values = λ i. cond (isZero (first (e i))) (v i) [];
+    left = rw (← e) (by-done (isZero (first rows)));
+  }
+    where
+      by-done : (done : Bool) → mapped plain (cond done next r) ≡ mapped plain (cond done next′ r′)
+      by-done true = l
+      by-done false = alike-mapped r r′ a
+
   module _ (n : ℕ) (j : Zone → Judgement) (b : Blind j) where
-    -- by the same refusals
-    settled-seen : (rows rows′ : List Row) → rows ≡ rows′
+    -- a call that stores one zone
+    stored-seen : (rows rows′ : List Row) → rows ≡ rows′
         → Seen (settled r rows (j (zoneAt r n) .values) (withZone r n (j (zoneAt r n) .after))) (settled r′ rows′ (j (zoneAt r′ n) .values) (withZone r′ n (j (zoneAt r′ n) .after)))
-    settled-seen rows rows′ e = record {
-      number = ap first e;
-      values = λ i. cond (isZero (first (e i))) (of-zone a (λ z. j z .values) (b .values) n i) [];
-      left = rw (← e) (by-done (isZero (first rows)));
-    }
-      where
-        by-done : (done : Bool) → mapped plain (cond done (withZone r n (j (zoneAt r n) .after)) r) ≡ mapped plain (cond done (withZone r′ n (j (zoneAt r′ n) .after)) r′)
-        by-done true =
-            let zones = ap (λ (x : Record). x .zones) (alike-mapped r r′ a) in
-            let z = of-zone a (λ z. plain (j z .after)) (b .left) n in
-            let stored = mapped-set plain (r .zones) n (j (zoneAt r n) .after) ∙ (λ i. set (zones i) n (z i)) ∙ sym (mapped-set plain (r′ .zones) n (j (zoneAt r′ n) .after)) in
-            ap (λ (zs : List Zone). record { zones = zs }) stored
-        by-done false = alike-mapped r r′ a
+    stored-seen rows rows′ e =
+        let zones = ap (λ (x : Record). x .zones) (alike-mapped r r′ a) in
+        let z = of-zone a (λ z. plain (j z .after)) (b .left) n in
+        let stored = mapped-set plain (r .zones) n (j (zoneAt r n) .after) ∙ (λ i. set (zones i) n (z i)) ∙ sym (mapped-set plain (r′ .zones) n (j (zoneAt r′ n) .after)) in
+        settled-seen rows rows′ _ _ _ _ e (of-zone a (λ z. j z .values) (b .values) n) (ap (λ (zs : List Zone). record { zones = zs }) stored)
 
     same-rows : j (zoneAt r n) .rows ≡ j (zoneAt r′ n) .rows
     same-rows = of-zone a (λ z. j z .rows) (b .rows) n
 
     at-zone-seen : Seen (atZone r n (j (zoneAt r n))) (atZone r′ n (j (zoneAt r′ n)))
-    at-zone-seen = settled-seen _ _ (λ i. (not (same-sound a i) gives 2) ∷ (same-there a n i gives 3) ∷ same-rows i)
+    at-zone-seen = stored-seen _ _ (λ i. (not (same-sound a i) gives 2) ∷ (same-there a n i gives 3) ∷ same-rows i)
 
   -- ---- call by call
 
@@ -133,7 +138,7 @@ module _ {r r′ : Record} (a : Alike r r′) where
   text-seen n line room =
       let p = lineRead line in
       let b = parsed-blind p in
-      settled-seen n (λ z. parsedAt z p) b _ _
+      stored-seen n (λ z. parsedAt z p) b _ _
       (λ i.
       (tooSmall room gives 1)
       ∷ (not (same-sound a i) gives 2)
@@ -148,7 +153,7 @@ module _ {r r′ : Record} (a : Alike r r′) where
       let b = parsed-blind p in
       let n = zoneFound (holder r bytes) in
       rw (← (same-found a (addressIn bytes)))
-      (settled-seen n (λ z. parsedAt z p) b _ _
+      (stored-seen n (λ z. parsedAt z p) b _ _
       (λ i.
       (tooSmall room gives 1)
       ∷ (not (same-sound a i) gives 2)
@@ -159,6 +164,28 @@ module _ {r r′ : Record} (a : Alike r r′) where
       ∷ (isSyntax p gives 8)
       ∷ same-rows n (λ z. parsedAt z p) b i))
 
+  -- a merging looks at the kilograms of two zones, and sets these and no source
+  merge-seen : (n m : ℕ) → Seen (resultOf r (merge n m)) (resultOf r′ (merge n m))
+  unfolding mergeOf
+  merge-seen n m = settled-seen (mergeRows r n m) (mergeRows r′ n m) [] [] (merged r n m) (merged r′ n m) rows refl (joined r ∙ both ∙ sym (joined r′))
+    where
+      kilograms : together r n m ≡ together r′ n m
+      kilograms = λ i. a .zones m i .kilograms + a .zones n i .kilograms
+
+      rows : mergeRows r n m ≡ mergeRows r′ n m
+      rows = λ i. (not (same-sound a i) gives 2) ∷ ((same-there a n i || same-there a m i) gives 3) ∷ (eqb n m gives 17) ∷ (not (bookingInRange (kilograms i)) gives 16) ∷ []
+
+      plainly : Record → Zone → ℕ → Record
+      plainly x z held = record { zones = set (set (x .zones) m (withKilograms z held)) n emptyZone }
+
+      joined : (x : Record) → mapped plain (merged x n m) ≡ plainly (mapped plain x) (plain (zoneAt x m)) (together x n m)
+      joined x =
+          let z = withKilograms (zoneAt x m) (together x n m) in
+          ap (λ (zs : List Zone). record { zones = zs }) (mapped-set plain (set (x .zones) m z) n emptyZone ∙ ap (λ (zs : List Zone). set zs n emptyZone) (mapped-set plain (x .zones) m z))
+
+      both : plainly (mapped plain r) (plain (zoneAt r m)) (together r n m) ≡ plainly (mapped plain r′) (plain (zoneAt r′ m)) (together r′ n m)
+      both = λ i. plainly (alike-mapped r r′ a i) (a .zones m i) (kilograms i)
+
   -- a repair leaves a sound record as it is
   repair-seen : Seen (resultOf r repair) (resultOf r′ repair)
   repair-seen =
@@ -167,9 +194,9 @@ module _ {r r′ : Record} (a : Alike r r′) where
       rw (one, other) (record { number = refl; values = refl; left = alike-mapped r r′ a })
 
   quiet-seen : (call : Quiet) → quietOfSource call ≡ false → Seen (resultOf r call) (resultOf r′ call)
-  unfolding addOf removeOf reportOf applyOf
+  unfolding addOf removeOf reportOf applyOf bookOf shipOf
   quiet-seen (add n address range) e =
-      settled-seen n (λ z. addAt z address range (heldIn (r .zones) address)) (record { rows = λ z. refl; values = λ z. refl; left = λ z. refl }) _ _
+      stored-seen n (λ z. addAt z address range (heldIn (r .zones) address)) (record { rows = λ z. refl; values = λ z. refl; left = λ z. refl }) _ _
       (λ i.
       (not (same-sound a i) gives 2)
       ∷ (leb 16 n gives 3)
@@ -177,11 +204,14 @@ module _ {r r′ : Record} (a : Alike r r′) where
       ∷ (not (addressInRange address && rangeKnown range) gives 9)
       ∷ (same-held a address i gives 11)
       ∷ [])
-  quiet-seen (remove n) e = at-zone-seen n (λ z. removeAt) (record { rows = λ z. refl; values = λ z. refl; left = λ z. refl })
+  quiet-seen (remove n) e = at-zone-seen n removeAt (record { rows = λ z. refl; values = λ z. refl; left = λ z. refl })
   quiet-seen (report n state actual) e = at-zone-seen n (λ z. reportAt z state actual) (record { rows = λ z. refl; values = λ z. refl; left = λ z. refl })
   quiet-seen (apply n c) e = at-zone-seen n (λ z. commandAt z c) (command-blind c)
   quiet-seen (chooseSource n source millivolts) e = never (sym e)
   quiet-seen (setpointInUse n) e = never (sym e)
+  quiet-seen (book n kg) e = at-zone-seen n (λ z. bookAt z kg) (record { rows = λ z. refl; values = λ z. refl; left = λ z. refl })
+  quiet-seen (ship n kg) e = at-zone-seen n (λ z. shipAt z kg) (record { rows = λ z. refl; values = λ z. refl; left = λ z. refl })
+  quiet-seen (merge n m) e = merge-seen n m
   quiet-seen repair e = repair-seen
 
   -- what is answered is the same, and what is left of the records
@@ -229,6 +259,9 @@ source-left r (quiet (report n state actual)) e = never e
 source-left r (quiet (apply n c)) e = never e
 source-left r (quiet (chooseSource n source millivolts)) e = choice-left r n source millivolts
 source-left r (quiet (setpointInUse n)) e = ap (mapped plain) (setpoint-in-use-alters-nothing r n)
+source-left r (quiet (book n kg)) e = never e
+source-left r (quiet (ship n kg)) e = never e
+source-left r (quiet (merge n m)) e = never e
 source-left r (quiet repair) e = never e
 
 one-source : (r r′ : Record) (call : Call) → Alike r r′ → ofSource call ≡ true → Alike (after r call) r′

@@ -28,7 +28,7 @@ use Rattle.frame.specs.Frame.{frameRoad, frameOf, groupIndexed}
 use Rattle.frame.proofs.Requests.{index-again}
 use Rattle.roads.specs.Calls.{answerText, answerFrame}
 use Rattle.session.specs.Sessions.{Call, after, run}
-use Rattle.session.specs.Changes.{Becomes, stays, written, was-reported, was-removed, was-added, was-chosen, was-mended, NotRewritten}
+use Rattle.session.specs.Changes.{Becomes, stays, written, was-reported, was-removed, was-added, was-chosen, was-rebooked, was-mended, NotRewritten}
 use Rattle.session.specs.Demands.{Present, SetsOnly, EveryWriteIsStored, StaysStored}
 use Rattle.session.proofs.Done.{Applied, line-done, frame-done}
 use Rattle.session.proofs.Changes.{becomes}
@@ -79,6 +79,7 @@ one-kept n group r call p u = by-change (becomes r call n)
     by-change (was-removed w q s) = absurd (u .not-removed w)
     by-change (was-added address range w q s) = never (sym q ∙ p)
     by-change (was-chosen source millivolts w q s) = record { present = s .head .present ∙ p; same = s .groups group }
+    by-change (was-rebooked kilograms w q s) = record { present = s .head .present ∙ p; same = s .groups group }
     by-change (was-mended window w q s) = same-group group Ahue (λ e. absurd (u .not-mended e window w)) (λ v. record { present = s .head .present ∙ p; same = s .otherGroups group v })
 
 pub stays-stored : StaysStored

@@ -1,6 +1,6 @@
--- What a call does to a zone: what documents 01 and 02 have a done write, report, removal, addition, choice of a source or repair set is set, and nothing else becomes of any zone. The hypotheses of the demands on whole sessions are said in these words.
+-- What a call does to a zone: what documents 01 and 02 have a done write, report, removal, addition, choice of a source, booking, shipment, merging or repair set is set, and nothing else becomes of any zone. The hypotheses of the demands on whole sessions are said in these words.
 -- "P → ⊥" says that P does not hold, "P × Q" that both do.
-use Prim.Native.Nat.{ℕ}
+use Prim.Native.Nat.{ℕ, _+_}
 use mathlib.Core.Path.{_≡_}
 use mathlib.Core.Bool.{true, false}
 use mathlib.Core.List.{List}
@@ -14,14 +14,14 @@ use Rattle.zone.specs.declared.sources.Source.{Source}
 use Rattle.zone.specs.declared.zones.Zone.{Zone}
 use Rattle.zone.specs.Figures.{groupOf}
 use Rattle.zone.specs.Zones.{newZone, emptyZone, stateNumbered, opened}
-use Rattle.zone.specs.Rules.{SetsFigures, SetsStatus, SetsOrigin, Shut}
+use Rattle.zone.specs.Rules.{SetsFigures, SetsStatus, SetsOrigin, SetsKilograms, Shut}
 use Rattle.card.specs.declared.records.Record.{Record}
 use Rattle.card.specs.Records.{zoneAt}
 use Rattle.wire.specs.declared.Parsed.the-variants.{Known}
 use Rattle.line.specs.Line.{lineRead}
 use Rattle.frame.specs.declared.reading.Framed.the-variants.{Request}
 use Rattle.frame.specs.Frame.{frameRead}
-use Rattle.session.specs.Sessions.{text, frame, add, remove, report, apply, chooseSource, repair, Call, inRoom, quiet, Done, after}
+use Rattle.session.specs.Sessions.{text, frame, add, remove, report, apply, chooseSource, book, ship, merge, repair, Call, inRoom, quiet, Done, after}
 
 -- the call is a done write of those figures to zone n, applied or by either road
 pub data Writes (n : ℕ) (figures : Figures) (r : Record) : Call → Type 0 where
@@ -30,12 +30,20 @@ pub data Writes (n : ℕ) (figures : Figures) (r : Record) : Call → Type 0 whe
   by-frame : (bytes room : List ℕ) → zoneAt r n .present ≡ true → frameRead bytes ≡ Request (zoneAt r n .address) (Known (Write figures)) → Done r (inRoom (frame bytes) room)
       → Writes n figures r (inRoom (frame bytes) room)
 
--- a done report of that state and actual value to zone n, a done removal of it, a done addition of it with that address and temperature range
+-- a done report of that state and actual value to zone n
 pub data Reports (n state actual : ℕ) (r : Record) : Call → Type 0 where
   reported : Done r (quiet (report n state actual)) → Reports n state actual r (quiet (report n state actual))
 
+-- a done merging of zone a into b (document 02, Req 07)
+pub data Merges (a b : ℕ) (r : Record) : Call → Type 0 where
+  merged : Done r (quiet (merge a b)) → Merges a b r (quiet (merge a b))
+
+-- zone n is removed: by a done removal, or since it is merged into another ("Merging zone a into b .. removes a")
 pub data Removes (n : ℕ) (r : Record) : Call → Type 0 where
   removed : Done r (quiet (remove n)) → Removes n r (quiet (remove n))
+  merged-away : {call : Call} (b : ℕ) → Merges n b r call → Removes n r call
+
+-- a done addition of zone n with that address and temperature range
 
 pub data Adds (n address range : ℕ) (r : Record) : Call → Type 0 where
   added : Done r (quiet (add n address range)) → Adds n address range r (quiet (add n address range))
@@ -44,24 +52,31 @@ pub data Adds (n address range : ℕ) (r : Record) : Call → Type 0 where
 pub data Chooses (n : ℕ) (source : Source) (millivolts : ℕ) (r : Record) : Call → Type 0 where
   chosen : Done r (quiet (chooseSource n source millivolts)) → Chooses n source millivolts r (quiet (chooseSource n source millivolts))
 
+-- so many kilograms come to stand on zone n (document 02, Req 07): by a done booking, which "adds", by a done shipment, which "subtracts", said as a sum, or as another zone's whole booking is moved to it
+pub data Rebooks (n kilograms : ℕ) (r : Record) : Call → Type 0 where
+  booked : (amount : ℕ) → Done r (quiet (book n amount)) → kilograms ≡ zoneAt r n .kilograms + amount → Rebooks n kilograms r (quiet (book n amount))
+  shipped : (amount : ℕ) → Done r (quiet (ship n amount)) → kilograms + amount ≡ zoneAt r n .kilograms → Rebooks n kilograms r (quiet (ship n amount))
+  moved-in : {call : Call} (a : ℕ) → Merges a n r call → kilograms ≡ zoneAt r n .kilograms + zoneAt r a .kilograms → Rebooks n kilograms r call
+
 -- a done repair, where zone n has a window whose begin is not below its end
 pub data Repairs (n : ℕ) (window : WindowFigures) (r : Record) : Call → Type 0 where
   repaired : Done r (quiet repair) → Shut (zoneAt r n) window → Repairs n window r (quiet repair)
 
--- what is done is set: "A done write sets exactly the figures of its group in its zone"; "A done report sets exactly the state and the actual value of its zone"; "Removing empties the zone"; a done addition gives the new zone; a choice sets the source and the input; a repair "sets the end to begin + 1 in each such zone"
+-- what is done is set: "A done write sets exactly the figures of its group in its zone"; "A done report sets exactly the state and the actual value of its zone"; "Removing empties the zone", and so does merging it into another; a done addition gives the new zone; a choice sets the source and the input; a booking, a shipment and the merging of another zone into this one set the kilograms; a repair "sets the end to begin + 1 in each such zone"
 pub record Sets (r : Record) (n : ℕ) (call : Call) (z : Zone) : Type 0 where
   pub figures-set : (figures : Figures) → Writes n figures r call → SetsFigures (zoneAt r n) figures z
   pub status-set : (state actual : ℕ) → Reports n state actual r call → SetsStatus (zoneAt r n) (record { state = stateNumbered state; actual = actual }) z
   pub emptied : Removes n r call → z ≡ emptyZone
   pub made-new : (address range : ℕ) → Adds n address range r call → z ≡ newZone address range
   pub origin-set : (source : Source) (millivolts : ℕ) → Chooses n source millivolts r call → SetsOrigin (zoneAt r n) (record { source = source; millivolts = millivolts }) z
+  pub kilograms-set : (kilograms : ℕ) → Rebooks n kilograms r call → SetsKilograms (zoneAt r n) kilograms z
   pub end-set : (window : WindowFigures) → Repairs n window r call → SetsFigures (zoneAt r n) (AhueWindow (opened window)) z
 
 -- `sets`, in proofs/Changes.antt: of every call and every zone
 abbrev pub WhatIsDoneIsSet : Type 0
 WhatIsDoneIsSet = (r : Record) (call : Call) (n : ℕ) → Sets r n call (zoneAt (after r call) n)
 
--- and nothing else becomes of zone n: it stays as it is or, where it is present, gets what is written, reported or chosen, or is emptied or mended; where it is absent, it may become a new zone
+-- and nothing else becomes of zone n: it stays as it is or, where it is present, gets what is written, reported, chosen or booked, or is emptied or mended; where it is absent, it may become a new zone
 pub data Becomes (r : Record) (n : ℕ) (call : Call) (z : Zone) : Type 0 where
   stays : z ≡ zoneAt r n → Becomes r n call z
   written : (figures : Figures) → Writes n figures r call → zoneAt r n .present ≡ true → SetsFigures (zoneAt r n) figures z → Becomes r n call z
@@ -69,6 +84,7 @@ pub data Becomes (r : Record) (n : ℕ) (call : Call) (z : Zone) : Type 0 where
   was-removed : Removes n r call → zoneAt r n .present ≡ true → z ≡ emptyZone → Becomes r n call z
   was-added : (address range : ℕ) → Adds n address range r call → zoneAt r n .present ≡ false → z ≡ newZone address range → Becomes r n call z
   was-chosen : (source : Source) (millivolts : ℕ) → Chooses n source millivolts r call → zoneAt r n .present ≡ true → SetsOrigin (zoneAt r n) (record { source = source; millivolts = millivolts }) z → Becomes r n call z
+  was-rebooked : (kilograms : ℕ) → Rebooks n kilograms r call → zoneAt r n .present ≡ true → SetsKilograms (zoneAt r n) kilograms z → Becomes r n call z
   was-mended : (window : WindowFigures) → Repairs n window r call → zoneAt r n .present ≡ true → SetsFigures (zoneAt r n) (AhueWindow (opened window)) z → Becomes r n call z
 
 -- `becomes`, in proofs/Changes.antt: of every call, whatever it is and whatever it is answered, and of every zone
@@ -84,7 +100,7 @@ NotAdded n r call = (address range : ℕ) → Adds n address range r call → �
 abbrev pub NotGiven : ℕ → Record → Call → Type 0
 NotGiven address r call = (n range : ℕ) → Adds n address range r call → ⊥
 
--- no figures of that group are written to zone n, it is not removed and, if the group is AHUE, no window of it is mended
+-- no figures of that group are written to zone n, it is not removed, by merging either, and, if the group is AHUE, no window of it is mended
 pub record NotRewritten (n : ℕ) (group : Group) (r : Record) (call : Call) : Type 0 where
   pub not-written : (figures : Figures) → groupOf figures ≡ group → Writes n figures r call → ⊥
   pub not-removed : Removes n r call → ⊥

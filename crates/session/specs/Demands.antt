@@ -23,8 +23,8 @@ use Rattle.zone.specs.Rules.{SetsFigures, Shut}
 use Rattle.card.specs.declared.records.Record.{Record}
 use Rattle.card.specs.Refusals.{Row}
 use Rattle.card.specs.Records.{zoneAt, otherwiseSound, sound}
-use Rattle.card.specs.Calls.{addRows, zoneRows, removeAt, reportAt, commandAt, chooseSourceAt, setpointInUseAt, repairRows}
-use Rattle.card.specs.Rules.{ExactlyWhen, numbersIn, addOrder, removeOrder, reportOrder, applyOrder, chooseSourceOrder, setpointInUseOrder, repairOrder, InOrder}
+use Rattle.card.specs.Calls.{addRows, zoneRows, removeAt, reportAt, commandAt, chooseSourceAt, setpointInUseAt, bookAt, shipAt, mergeRows, repairRows}
+use Rattle.card.specs.Rules.{ExactlyWhen, numbersIn, addOrder, removeOrder, reportOrder, applyOrder, chooseSourceOrder, setpointInUseOrder, bookOrder, shipOrder, mergeOrder, repairOrder, InOrder}
 use Rattle.wire.specs.declared.Parsed.the-variants.{Known}
 use Rattle.wire.specs.Road.{carriesCommand}
 use Rattle.line.specs.Line.{A, S, textRoad, lineWith, lineOf, lineRead}
@@ -34,8 +34,8 @@ use Rattle.roads.specs.declared.answering.Acknowledgement.{Acknowledgement}
 use Rattle.roads.specs.declared.answering.Acknowledgement.the-variants.{Okay}
 use Rattle.roads.specs.Acknowledgements.{textOf, functionOf, textRefusal, frameRefusal}
 use Rattle.roads.specs.Calls.{Said, said, Answered, replyIn, textOrder, textRows, answerText, frameOrder, frameRows, answerFrame, composeOrder, composeRows, composedLine, composedFrame}
-use Rattle.session.specs.Sessions.{Speaking, text, frame, composeLine, composeFrame, Quiet, add, remove, report, apply, chooseSource, setpointInUse, repair, Call, inRoom, quiet, answerTo, after, Done, run, Throughout}
-use Rattle.session.specs.Changes.{NotAdded, NotGiven, NotRewritten}
+use Rattle.session.specs.Sessions.{Speaking, text, frame, composeLine, composeFrame, Quiet, add, remove, report, apply, chooseSource, setpointInUse, book, ship, merge, repair, Call, inRoom, quiet, answerTo, after, Done, run, Throughout}
+use Rattle.session.specs.Changes.{Removes, NotAdded, NotGiven, NotRewritten}
 
 -- ---- 1. "Any bytes, any zone number and any record may be handed to the card."
 
@@ -53,6 +53,9 @@ quietOrder (report zone state actual) = reportOrder
 quietOrder (apply zone command) = applyOrder
 quietOrder (chooseSource zone source millivolts) = chooseSourceOrder
 quietOrder (setpointInUse zone) = setpointInUseOrder
+quietOrder (book zone kilograms) = bookOrder
+quietOrder (ship zone kilograms) = shipOrder
+quietOrder (merge a b) = mergeOrder
 quietOrder repair = repairOrder
 
 abbrev pub order : Call → List ℕ
@@ -68,11 +71,14 @@ spokenRefusals r (composeFrame address command) room = composeRows (addressInRan
 
 abbrev pub quietRefusals : Record → Quiet → List Row
 quietRefusals r (add zone address range) = addRows r zone address range
-quietRefusals r (remove zone) = zoneRows r zone removeAt
+quietRefusals r (remove zone) = zoneRows r zone (removeAt (zoneAt r zone))
 quietRefusals r (report zone state actual) = zoneRows r zone (reportAt (zoneAt r zone) state actual)
 quietRefusals r (apply zone command) = zoneRows r zone (commandAt (zoneAt r zone) command)
 quietRefusals r (chooseSource zone source millivolts) = zoneRows r zone (chooseSourceAt (zoneAt r zone) source millivolts)
 quietRefusals r (setpointInUse zone) = zoneRows r zone (setpointInUseAt (zoneAt r zone))
+quietRefusals r (book zone kilograms) = zoneRows r zone (bookAt (zoneAt r zone) kilograms)
+quietRefusals r (ship zone kilograms) = zoneRows r zone (shipAt (zoneAt r zone) kilograms)
+quietRefusals r (merge a b) = mergeRows r a b
 quietRefusals r repair = repairRows r
 
 abbrev pub refusals : Record → Call → List Row
@@ -132,9 +138,13 @@ CallsHaveTheWholeOrder = (r : Record) (call : Quiet) → ((n : ℕ) (command : C
 abbrev pub StaysEmpty : Type 0
 StaysEmpty = (r : Record) (n : ℕ) (calls : List Call) → zoneAt r n ≡ emptyZone → Throughout (NotAdded n) r calls → zoneAt (run r calls) n ≡ emptyZone
 
+-- the record at the end of a session that began with a call, such as the one that removed the zone
+abbrev pub later : Record → Call → List Call → Record
+later r call calls = run (after r call) calls
+
+-- by removal, and by merging (document 02, Req 07)
 abbrev pub StaysRemoved : Type 0
-StaysRemoved = (r : Record) (n : ℕ) (calls : List Call) → Done r (quiet (remove n)) → Throughout (NotAdded n) (after r (quiet (remove n))) calls
-    → zoneAt (run (after r (quiet (remove n))) calls) n ≡ emptyZone
+StaysRemoved = (r : Record) (n : ℕ) (call : Call) (calls : List Call) → Removes n r call → Throughout (NotAdded n) (after r call) calls → zoneAt (later r call calls) n ≡ emptyZone
 
 -- "an address that no present zone holds meets silence".
 pub record Silence (r : Record) (bytes room : List ℕ) : Type 0 where
@@ -150,14 +160,10 @@ abbrev pub MeetsSilence : Type 0
 MeetsSilence = (r : Record) (bytes room : List ℕ) → ((n : ℕ) → zoneAt r n .present ≡ true → zoneAt r n .address ≡ addressIn bytes → ⊥) → Silence r bytes room
 
 -- the buyer's case: "fitters folded head 5 into head 4. The orders still pointed at head 5. The old card went on answering OK to its address".
--- Once a zone has been removed, every call that still points at it is refused, in silence and to the end of any session: one that names its number with 3, until the zone is added again;
+-- Once a zone has been removed, by removal or by merging, every call that still points at it is refused, in silence and to the end of any session: one that names its number with 3, until the zone is added again;
 -- a frame of document 01's shape to its old address with 5, until a zone is added with that address. (On the two roads with room of 32 bytes; with less it is 1, in silence too.)
 abbrev pub refusedSilently : ℕ → Record → List ℕ → Answered
 refusedSilently number r room = record { said = said number [] [] room; after = r }
-
--- the record at the end of a session that began with the removal
-abbrev pub later : Record → ℕ → List Call → Record
-later r n calls = run (after r (quiet (remove n))) calls
 
 -- a call without a room that is made at zone n, other than adding it
 pub data PointsAt (n : ℕ) : Quiet → Type 0 where
@@ -166,17 +172,21 @@ pub data PointsAt (n : ℕ) : Quiet → Type 0 where
   removes : PointsAt n (remove n)
   chooses : (source : Source) (millivolts : ℕ) → PointsAt n (chooseSource n source millivolts)
   asks : PointsAt n (setpointInUse n)
+  books : (kilograms : ℕ) → PointsAt n (book n kilograms)
+  ships : (kilograms : ℕ) → PointsAt n (ship n kilograms)
+  merges : (b : ℕ) → PointsAt n (merge n b)
+  merges-into : (a : ℕ) → PointsAt n (merge a n)
 
-pub record Gone (r : Record) (n : ℕ) (calls : List Call) (room : List ℕ) : Type 0 where
-  pub by-line : Throughout (NotAdded n) (after r (quiet (remove n))) calls → (line : List ℕ) → answerText (later r n calls) n line room ≡ refusedSilently 3 (later r n calls) room
-  pub by-frame : Throughout (NotGiven (zoneAt r n .address)) (after r (quiet (remove n))) calls
-      → (bytes : List ℕ) → shaped bytes ≡ true → addressIn bytes ≡ zoneAt r n .address → answerFrame (later r n calls) bytes room ≡ refusedSilently 5 (later r n calls) room
-  -- applying a command, reporting, removing once more, choosing the source, asking for the setpoint in use
-  pub by-call : Throughout (NotAdded n) (after r (quiet (remove n))) calls → (call : Quiet) → PointsAt n call → answerTo (later r n calls) (quiet call) ≡ refusedSilently 3 (later r n calls) []
+pub record Gone (r : Record) (n : ℕ) (removal : Call) (calls : List Call) (room : List ℕ) : Type 0 where
+  pub by-line : Throughout (NotAdded n) (after r removal) calls → (line : List ℕ) → answerText (later r removal calls) n line room ≡ refusedSilently 3 (later r removal calls) room
+  pub by-frame : Throughout (NotGiven (zoneAt r n .address)) (after r removal) calls
+      → (bytes : List ℕ) → shaped bytes ≡ true → addressIn bytes ≡ zoneAt r n .address → answerFrame (later r removal calls) bytes room ≡ refusedSilently 5 (later r removal calls) room
+  -- applying a command, reporting, removing once more, choosing the source, asking for the setpoint in use, booking, shipping, merging it or into it
+  pub by-call : Throughout (NotAdded n) (after r removal) calls → (call : Quiet) → PointsAt n call → answerTo (later r removal calls) (quiet call) ≡ refusedSilently 3 (later r removal calls) []
 
 -- `stays-gone`, in proofs/Demand1.antt
 abbrev pub RemovedStaysGone : Type 0
-RemovedStaysGone = (r : Record) (n : ℕ) (calls : List Call) (room : List ℕ) → Done r (quiet (remove n)) → 32 ≤ length room → Gone r n calls room
+RemovedStaysGone = (r : Record) (n : ℕ) (removal : Call) (calls : List Call) (room : List ℕ) → Removes n r removal → 32 ≤ length room → Gone r n removal calls room
 
 -- ---- 2. "Replies are those of the device description as document 01 condenses it."
 
@@ -351,7 +361,7 @@ pub record WriteStored (given : Record) (n : ℕ) (figures : Figures) (room : Li
 abbrev pub EveryWriteIsStored : Type 0
 EveryWriteIsStored = (r : Record) (calls : List Call) (n : ℕ) (figures : Figures) (room : List ℕ) → WriteStored (run r calls) n figures room
 
--- and whatever comes after: the figures of a present zone's group stay until a done write of that group to it, its done removal or, of AHUE, the repair of its window. `stays-stored`, in proofs/Useless.antt
+-- and whatever comes after: the figures of a present zone's group stay until a done write of that group to it, its removal or merging into another or, of AHUE, the repair of its window. `stays-stored`, in proofs/Useless.antt
 abbrev pub StaysStored : Type 0
 StaysStored = (r : Record) (n : ℕ) (group : Group) (calls : List Call) → zoneAt r n .present ≡ true → Throughout (NotRewritten n group) r calls
     → figuresOf (zoneAt (run r calls) n) group ≡ figuresOf (zoneAt r n) group

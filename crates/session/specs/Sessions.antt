@@ -6,7 +6,7 @@ use Rattle.zone.specs.declared.figures.Command.{Command}
 use Rattle.zone.specs.declared.sources.Source.{Source}
 use Rattle.card.specs.declared.records.Record.{Record}
 use Rattle.card.specs.Answers.{Result}
-use Rattle.card.specs.Calls.{addOf, removeOf, reportOf, applyOf, chooseSourceOf, setpointInUseOf, repairOf}
+use Rattle.card.specs.Calls.{addOf, removeOf, reportOf, applyOf, chooseSourceOf, setpointInUseOf, bookOf, shipOf, mergeOf, repairOf}
 use Rattle.roads.specs.Calls.{Answered, said, answerText, answerFrame, composedLine, composedFrame}
 
 -- a call that is lent a room, and may reply in it
@@ -24,6 +24,9 @@ pub data Quiet : Type 0 where
   apply : ℕ → Command → Quiet
   chooseSource : ℕ → Source → ℕ → Quiet
   setpointInUse : ℕ → Quiet
+  book : ℕ → ℕ → Quiet
+  ship : ℕ → ℕ → Quiet
+  merge : ℕ → ℕ → Quiet
   repair : Quiet
 
 -- a call that document 01 or a request of document 02 names, with its arguments and, where it has one, the room that is lent
@@ -45,6 +48,9 @@ resultOf r (report zone state actual) = reportOf r zone state actual
 resultOf r (apply zone command) = applyOf r zone command
 resultOf r (chooseSource zone source millivolts) = chooseSourceOf r zone source millivolts
 resultOf r (setpointInUse zone) = setpointInUseOf r zone
+resultOf r (book zone kilograms) = bookOf r zone kilograms
+resultOf r (ship zone kilograms) = shipOf r zone kilograms
+resultOf r (merge a b) = mergeOf r a b
 resultOf r repair = repairOf r .result
 
 abbrev pub answerTo : Record → Call → Answered

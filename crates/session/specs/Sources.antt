@@ -19,7 +19,7 @@ use Rattle.card.specs.Calls.{setpointTold}
 use Rattle.line.specs.Line.{lineOf}
 use Rattle.frame.specs.Frame.{frameOf}
 use Rattle.roads.specs.Calls.{Said, said, answerText, textPlace, answerFrame}
-use Rattle.session.specs.Sessions.{Quiet, add, remove, report, apply, chooseSource, setpointInUse, repair, Call, inRoom, quiet, answerTo, after, Done, run, Throughout}
+use Rattle.session.specs.Sessions.{Quiet, add, remove, report, apply, chooseSource, setpointInUse, book, ship, merge, repair, Call, inRoom, quiet, answerTo, after, Done, run, Throughout}
 use Rattle.session.specs.Changes.{Writes, Removes, Chooses, NotAdded}
 use Rattle.session.specs.Demands.{Present, later}
 
@@ -88,7 +88,7 @@ SolwCounts = (r : Record) (n : ℕ) (figures : SetpointFigures) (call : Call) �
 
 -- ---- how long a choice lasts
 
--- no source is chosen for zone n, and it is not removed
+-- no source is chosen for zone n, and it is not removed, by merging either
 pub record NotRechosen (n : ℕ) (r : Record) (call : Call) : Type 0 where
   pub not-chosen : (source : Source) (millivolts : ℕ) → Chooses n source millivolts r call → ⊥
   pub not-removed : Removes n r call → ⊥
@@ -98,12 +98,12 @@ abbrev pub StaysChosen : Type 0
 StaysChosen = (r : Record) (n : ℕ) (calls : List Call) → zoneAt r n .present ≡ true → Throughout (NotRechosen n) r calls → zoneAt (run r calls) n .origin ≡ zoneAt r n .origin
 
 -- "A new zone, like an absent one, has source interface and 0 mV": a removed zone has them to the end of any session that does not add it again, and starts with them once it is added. `starts-anew`, in proofs/Sources.antt
-pub record Anew (r : Record) (n : ℕ) (calls : List Call) : Type 0 where
-  pub absent : zoneAt (later r n calls) n .origin ≡ sources.newOrigin
-  pub added : (address range : ℕ) → Done (later r n calls) (quiet (add n address range)) → zoneAt (after (later r n calls) (quiet (add n address range))) n .origin ≡ sources.newOrigin
+pub record Anew (left : Record) (n : ℕ) : Type 0 where
+  pub absent : zoneAt left n .origin ≡ sources.newOrigin
+  pub added : (address range : ℕ) → Done left (quiet (add n address range)) → zoneAt (after left (quiet (add n address range))) n .origin ≡ sources.newOrigin
 
 abbrev pub StartsAnew : Type 0
-StartsAnew = (r : Record) (n : ℕ) (calls : List Call) → Done r (quiet (remove n)) → Throughout (NotAdded n) (after r (quiet (remove n))) calls → Anew r n calls
+StartsAnew = (r : Record) (n : ℕ) (removal : Call) (calls : List Call) → Removes n r removal → Throughout (NotAdded n) (after r removal) calls → Anew (later r removal calls) n
 
 -- ---- "LSOLW and SOLW keep to the commanded figure"
 
@@ -115,6 +115,9 @@ quietOfSource (report zone state actual) = false
 quietOfSource (apply zone command) = false
 quietOfSource (chooseSource zone source millivolts) = true
 quietOfSource (setpointInUse zone) = true
+quietOfSource (book zone kilograms) = false
+quietOfSource (ship zone kilograms) = false
+quietOfSource (merge a b) = false
 quietOfSource repair = false
 
 abbrev pub ofSource : Call → Bool

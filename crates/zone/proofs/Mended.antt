@@ -118,6 +118,9 @@ mended-present z = by-window z (λ e. ap (λ (x : Zone). x .present) (mended-sam
 pub mended-address : (z : Zone) → mended z .address ≡ z .address
 mended-address z = by-window z (λ e. ap (λ (x : Zone). x .address) (mended-same z e)) (λ f s. mended-sets z f s .head .address)
 
+pub mended-kilograms : (z : Zone) → mended z .kilograms ≡ z .kilograms
+mended-kilograms z = by-window z (λ e. ap (λ (x : Zone). x .kilograms) (mended-same z e)) (λ f s. mended-sets z f s .kilograms)
+
 pub mended-opens : (z : Zone) → windowOpens (mended z) ≡ true
 mended-opens z = by-window z (λ e. rw (mended-same z e) e) (λ f s. rw (mended-window z f s) (lt-ltb (f .begin) (f .begin + 1) (omega arith)))
 

@@ -1,4 +1,4 @@
--- Which zones are sound: the new and the empty one, and a sound one after a write, a report or a choice of the source in range. An absent one is the empty zone. Assumes nothing.
+-- Which zones are sound: the new and the empty one, and a sound one after a write, a report, a choice of the source or a booking in range. An absent one is the empty zone. Assumes nothing.
 use Prim.Native.Nat.{ℕ}
 use mathlib.Core.Path.{_≡_, refl, _∙_}
 use mathlib.Core.Bool.{Bool, true, false, and-true}
@@ -20,19 +20,20 @@ use Rattle.zone.specs.declared.zones.Zone.{Zone}
 use Rattle.zone.specs.Lists.{isZero}
 use Rattle.zone.specs.Figures.{eachInRange, opens, inRange, allZero}
 use Rattle.zone.specs.Sources.{inputInRange, newOrigin, isInterface, isNew}
-use Rattle.zone.specs.Zones.{newZone, emptyZone, watchFigures, figuresOf, addressInRange, rangeKnown, actualInRange, isOff, isDeadline, groupsEachInRange, presentOtherwiseSound, groupsZero, holdsNothing, zoneOtherwiseSound, windowOpens, zoneSound, withStatus, withOrigin, withFigures}
+use Rattle.zone.specs.Zones.{newZone, emptyZone, watchFigures, figuresOf, addressInRange, rangeKnown, actualInRange, bookingInRange, isOff, isDeadline, groupsEachInRange, presentOtherwiseSound, groupsZero, holdsNothing, zoneOtherwiseSound, windowOpens, zoneSound, withStatus, withOrigin, withKilograms, withFigures}
 use Rattle.zone.proofs.Tests.{never, both, and-l, and-r}
 
 -- the numbers of a present zone that stand in no group of commands
-pub record OwnFit (a temperature value millivolts : ℕ) : Type 0 where
+pub record OwnFit (a temperature value millivolts held : ℕ) : Type 0 where
   pub address : addressInRange a ≡ true
   pub range : rangeKnown temperature ≡ true
   pub actual : actualInRange value ≡ true
   pub input : inputInRange millivolts ≡ true
+  pub booking : bookingInRange held ≡ true
 
 -- the parts of a present zone's soundness, one by one, by how a group's figures are judged
 pub record FitBy (test : ℕ → Figures → Bool) (z : Zone) : Type 0 where
-  pub own : OwnFit (z .address) (z .range) (z .status .actual) (z .origin .millivolts)
+  pub own : OwnFit (z .address) (z .range) (z .status .actual) (z .origin .millivolts) (z .kilograms)
   pub ahue : test (z .range) (figuresOf z Ahue) ≡ true
   pub hzbg : test (z .range) (figuresOf z Hzbg) ≡ true
   pub rrue : test (z .range) (figuresOf z Rrue) ≡ true
@@ -51,7 +52,7 @@ otherwise-fits z p s =
     let h : presentOtherwiseSound z ≡ true = rw p at s in
     let groups : groupsEachInRange z ≡ true = search (and-l, and-r) in
     record {
-      own = record { address = search (and-l, and-r); range = search (and-l, and-r); actual = search (and-l, and-r); input = search (and-l, and-r) };
+      own = record { address = search (and-l, and-r); range = search (and-l, and-r); actual = search (and-l, and-r); input = search (and-l, and-r); booking = search (and-l, and-r) };
       ahue = search and-l;
       hzbg = search (and-l, and-r);
       rrue = search (and-l, and-r);
@@ -60,7 +61,7 @@ otherwise-fits z p s =
 
 pub otherwise-fitting : (z : Zone) → z .present ≡ true → OtherwiseFit z → zoneOtherwiseSound z ≡ true
 unfolding zoneOtherwiseSound
-otherwise-fitting z p k = rw p (rw (k .own .address, k .own .range, k .own .actual, k .own .input, k .ahue, k .hzbg, k .rrue, k .solw))
+otherwise-fitting z p k = rw p (rw (k .own .address, k .own .range, k .own .actual, k .own .input, k .own .booking, k .ahue, k .hzbg, k .rrue, k .solw))
 
 -- ---- the rule
 
@@ -124,12 +125,17 @@ new-sound address range a r = rw (a, r, leb·zero range)
 pub status-sound : (z : Zone) (s : Status) → z .present ≡ true → zoneSound z ≡ true → actualInRange (s .actual) ≡ true → zoneSound (withStatus z s) ≡ true
 status-sound z s p h a =
     let k = fits z p h in
-    fitting (withStatus z s) p (record { own = record { address = k .own .address; range = k .own .range; actual = a; input = k .own .input }; ahue = k .ahue; hzbg = k .hzbg; rrue = k .rrue; solw = k .solw })
+    fitting (withStatus z s) p (record { own = record { address = k .own .address; range = k .own .range; actual = a; input = k .own .input; booking = k .own .booking }; ahue = k .ahue; hzbg = k .hzbg; rrue = k .rrue; solw = k .solw })
 
 pub origin-sound : (z : Zone) (o : Origin) → z .present ≡ true → zoneSound z ≡ true → inputInRange (o .millivolts) ≡ true → zoneSound (withOrigin z o) ≡ true
 origin-sound z o p h i =
     let k = fits z p h in
-    fitting (withOrigin z o) p (record { own = record { address = k .own .address; range = k .own .range; actual = k .own .actual; input = i }; ahue = k .ahue; hzbg = k .hzbg; rrue = k .rrue; solw = k .solw })
+    fitting (withOrigin z o) p (record { own = record { address = k .own .address; range = k .own .range; actual = k .own .actual; input = i; booking = k .own .booking }; ahue = k .ahue; hzbg = k .hzbg; rrue = k .rrue; solw = k .solw })
+
+pub kilograms-sound : (z : Zone) (kg : ℕ) → z .present ≡ true → zoneSound z ≡ true → bookingInRange kg ≡ true → zoneSound (withKilograms z kg) ≡ true
+kilograms-sound z kg p h b =
+    let k = fits z p h in
+    fitting (withKilograms z kg) p (record { own = record { address = k .own .address; range = k .own .range; actual = k .own .actual; input = k .own .input; booking = b }; ahue = k .ahue; hzbg = k .hzbg; rrue = k .rrue; solw = k .solw })
 
 pub figures-sound : (z : Zone) (f : Figures) → z .present ≡ true → zoneSound z ≡ true → inRange (z .range) f ≡ true → zoneSound (withFigures z f) ≡ true
 figures-sound z f p h e = by-form f e
@@ -193,11 +199,12 @@ otherwise-empty z p s =
     let address : z .address ≡ 0 = zero _ (search (and-l, and-r)) in
     let range : z .range ≡ 0 = zero _ (search (and-l, and-r)) in
     let actual : z .status .actual ≡ 0 = zero _ (search (and-l, and-r)) in
+    let kilograms : z .kilograms ≡ 0 = zero _ (search (and-l, and-r)) in
     let state : z .status .state ≡ Off = off _ (search (and-l, and-r)) in
     let watch = watch-zero (z .watch) (search (and-l, and-r)) (search and-l) in
     let settings = settings-zero (z .settings) (search (and-l, and-r)) (search (and-l, and-r)) (search (and-l, and-r)) in
-    let origin = origin-new (z .origin) (search and-r) in
-    λ i. record { present = p i; address = address i; range = range i; status = record { state = state i; actual = actual i }; watch = watch i; settings = settings i; origin = origin i }
+    let origin = origin-new (z .origin) (search (and-l, and-r)) in
+    λ i. record { present = p i; address = address i; range = range i; status = record { state = state i; actual = actual i }; watch = watch i; settings = settings i; origin = origin i; kilograms = kilograms i }
 
 pub absent-empty : (z : Zone) → z .present ≡ false → zoneSound z ≡ true → z ≡ emptyZone
 absent-empty z p s = otherwise-empty z p (sound-zone-parts z s .0)

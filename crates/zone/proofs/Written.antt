@@ -1,4 +1,5 @@
--- What a write, a report and a choice of the source set, and that they set nothing else. Assumes nothing.
+-- What a write, a report, a choice of the source and a booking set, and that they set nothing else. Assumes nothing.
+use Prim.Native.Nat.{ℕ}
 use mathlib.Core.Path.{_≡_, refl, ap}
 use Rattle.zone.specs.declared.figures.Group.{Group}
 use Rattle.zone.specs.declared.figures.Group.the-variants.{Ahue, Hzbg, Rrue, Solw}
@@ -11,8 +12,8 @@ use Rattle.zone.specs.declared.zones.Watch.the-variants.{Deadline, Windo
 use Rattle.zone.specs.declared.zones.Settings.{Settings}
 use Rattle.zone.specs.declared.zones.Zone.{Zone}
 use Rattle.zone.specs.Figures.{groupOf}
-use Rattle.zone.specs.Zones.{watchFigures, figuresOf, withStatus, withWatch, withSettings, withOrigin, withFigures}
-use Rattle.zone.specs.Rules.{SameHead, SetsFigures, SetsStatus, SetsOrigin}
+use Rattle.zone.specs.Zones.{watchFigures, figuresOf, withStatus, withWatch, withSettings, withOrigin, withKilograms, withFigures}
+use Rattle.zone.specs.Rules.{SameHead, SetsFigures, SetsStatus, SetsOrigin, SetsKilograms}
 
 -- a write sets the watch or the settings: what holds of the zone with any other of these holds of what is written
 by-write : (z : Zone) (f : Figures) (P : Zone → Type 0) → ((w : Watch) → P (withWatch z w)) → ((s : Settings) → P (withSettings z s)) → P (withFigures z f)
@@ -56,6 +57,7 @@ sets-figures z f = record {
   head = by-write z f (SameHead z) (λ w. record { present = refl; address = refl; range = refl }) (λ s. record { present = refl; address = refl; range = refl });
   status = by-write z f (λ x. x .status ≡ z .status) (λ w. refl) (λ s. refl);
   origin = by-write z f (λ x. x .origin ≡ z .origin) (λ w. refl) (λ s. refl);
+  kilograms = by-write z f (λ x. x .kilograms ≡ z .kilograms) (λ w. refl) (λ s. refl);
   itsGroup = written-group z f;
   otherGroups = written-others z f;
 }
@@ -68,7 +70,10 @@ same-groups z z′ w s Rrue = ap (λ (x : Settings). RrueReference (x .reference
 same-groups z z′ w s Solw = ap (λ (x : Settings). SolwSetpoint (x .setpoint)) s
 
 pub sets-status : (z : Zone) (s : Status) → SetsStatus z s (withStatus z s)
-sets-status z s = record { head = record { present = refl; address = refl; range = refl }; reported = refl; origin = refl; groups = same-groups z (withStatus z s) refl refl }
+sets-status z s = record { head = record { present = refl; address = refl; range = refl }; reported = refl; origin = refl; kilograms = refl; groups = same-groups z (withStatus z s) refl refl }
 
 pub sets-origin : (z : Zone) (o : Origin) → SetsOrigin z o (withOrigin z o)
-sets-origin z o = record { head = record { present = refl; address = refl; range = refl }; status = refl; chosen = refl; groups = same-groups z (withOrigin z o) refl refl }
+sets-origin z o = record { head = record { present = refl; address = refl; range = refl }; status = refl; chosen = refl; kilograms = refl; groups = same-groups z (withOrigin z o) refl refl }
+
+pub sets-kilograms : (z : Zone) (kg : ℕ) → SetsKilograms z kg (withKilograms z kg)
+sets-kilograms z kg = record { head = record { present = refl; address = refl; range = refl }; status = refl; origin = refl; held = refl; groups = same-groups z (withKilograms z kg) refl refl }

@@ -1,4 +1,4 @@
--- Document 01's rules of what is written, as statements about a zone before and after. proofs/Written.antt proves them of the definitions: sets-figures, sets-status and, of document 02, Req 08, sets-origin. At the end those of Req 06, and how Req 08 rounds.
+-- Document 01's rules of what is written, as statements about a zone before and after. proofs/Written.antt proves them of the definitions: sets-figures, sets-status and, of document 02, sets-origin (Req 08) and sets-kilograms (Req 07). At the end those of Req 06, and how Req 08 rounds.
 use Prim.Native.Nat.{ℕ, _+_, _*_, _≤_, _<_}
 use mathlib.Core.Path.{_≡_}
 use mathlib.Core.Logic.{_↔_}
@@ -26,6 +26,7 @@ pub record SetsFigures (before : Zone) (figures : Figures) (after : Zone) : Type
   pub head : SameHead before after
   pub status : after .status ≡ before .status
   pub origin : after .origin ≡ before .origin
+  pub kilograms : after .kilograms ≡ before .kilograms
   pub itsGroup : figuresOf after (groupOf figures) ≡ figures
   pub otherGroups : (group : Group) → (group ≡ groupOf figures → ⊥) → figuresOf after group ≡ figuresOf before group
 
@@ -34,6 +35,7 @@ pub record SetsStatus (before : Zone) (status : Status) (after : Zone) : Type 0 
   pub head : SameHead before after
   pub reported : after .status ≡ status
   pub origin : after .origin ≡ before .origin
+  pub kilograms : after .kilograms ≡ before .kilograms
   pub groups : (group : Group) → figuresOf after group ≡ figuresOf before group
 
 -- "One call sets them" (document 02, Req 08): the source and the input, and nothing else of the zone
@@ -41,6 +43,15 @@ pub record SetsOrigin (before : Zone) (origin : Origin) (after : Zone) : Type 0 
   pub head : SameHead before after
   pub status : after .status ≡ before .status
   pub chosen : after .origin ≡ origin
+  pub kilograms : after .kilograms ≡ before .kilograms
+  pub groups : (group : Group) → figuresOf after group ≡ figuresOf before group
+
+-- "Booking adds, shipping subtracts" (document 02, Req 07), and merging moves: the kilograms on the zone, and nothing else of it
+pub record SetsKilograms (before : Zone) (kilograms : ℕ) (after : Zone) : Type 0 where
+  pub head : SameHead before after
+  pub status : after .status ≡ before .status
+  pub origin : after .origin ≡ before .origin
+  pub held : after .kilograms ≡ kilograms
   pub groups : (group : Group) → figuresOf after group ≡ figuresOf before group
 
 -- zone z has that window, and it is "a window with begin not below end" (document 02, Req 06)

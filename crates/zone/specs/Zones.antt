@@ -20,7 +20,7 @@ use Rattle.zone.specs.Table.{everyGroup}
 use Rattle.zone.specs.Figures.{eachInRange, opens, allZero}
 use Rattle.zone.specs.Sources.{inputInRange, newOrigin, isNew}
 
--- "A new zone is Off with actual value 0, watch off (deadline form, lower 10, upper 10, time 10), heating limit 0, reference watch off with 10 and 10, setpoint 0"; and by document 02, Req 08, "source interface and 0 mV"
+-- "A new zone is Off with actual value 0, watch off (deadline form, lower 10, upper 10, time 10), heating limit 0, reference watch off with 10 and 10, setpoint 0"; and by document 02 "source interface and 0 mV" (Req 08) and no kilograms: "New and absent zones hold 0" (Req 07)
 abbrev pub newZone : ℕ → ℕ → Zone
 newZone address range = record {
   present = true;
@@ -30,9 +30,10 @@ newZone address range = record {
   watch = Deadline (record { flag = 0; lower = 10; upper = 10; time = 10 });
   settings = record { limit = record { time = 0 }; reference = record { flag = 0; lower = 10; upper = 10 }; setpoint = record { setpoint = 0 } };
   origin = newOrigin;
+  kilograms = 0;
 }
 
--- "An absent zone holds nothing: all its numbers are 0, its state is Off, its watch a deadline"; its source is interface (Req 08)
+-- "An absent zone holds nothing: all its numbers are 0, its state is Off, its watch a deadline"; its source is interface (Req 08), and it holds 0 kg (Req 07)
 abbrev pub emptyZone : Zone
 emptyZone = record {
   present = false;
@@ -42,6 +43,7 @@ emptyZone = record {
   watch = Deadline (record { flag = 0; lower = 0; upper = 0; time = 0 });
   settings = record { limit = record { time = 0 }; reference = record { flag = 0; lower = 0; upper = 0 }; setpoint = record { setpoint = 0 } };
   origin = newOrigin;
+  kilograms = 0;
 }
 
 -- ---- what is read
@@ -78,9 +80,13 @@ actualInRange actual = leb actual 999
 abbrev pub groupsEachInRange : Zone → Bool
 groupsEachInRange z = every (λ group. eachInRange (z .range) (figuresOf z group)) everyGroup
 
--- "every figure of every present zone lies in its range", each judged by its own, and so does its input (Req 08); of the state and the source there is nothing to test, since their types have just the four and the two
+-- "A zone holds 0 to 1,000,000 kg" (document 02, Req 07)
+abbrev pub bookingInRange : ℕ → Bool
+bookingInRange kilograms = leb kilograms 1000000
+
+-- "every figure of every present zone lies in its range", each judged by its own, and so do its input (Req 08) and its kilograms (Req 07); of the state and the source there is nothing to test, since their types have just the four and the two
 abbrev pub presentOtherwiseSound : Zone → Bool
-presentOtherwiseSound z = addressInRange (z .address) && rangeKnown (z .range) && actualInRange (z .status .actual) && inputInRange (z .origin .millivolts) && groupsEachInRange z
+presentOtherwiseSound z = addressInRange (z .address) && rangeKnown (z .range) && actualInRange (z .status .actual) && inputInRange (z .origin .millivolts) && bookingInRange (z .kilograms) && groupsEachInRange z
 
 abbrev pub isOff : State → Bool
 isOff Off = true
@@ -97,9 +103,9 @@ groupsZero z = every (λ group. allZero (figuresOf z group)) everyGroup
 
 -- "An absent zone holds nothing", as a test: an absent zone that passes it is emptyZone (absent-empty, in proofs/Sound.antt)
 abbrev pub holdsNothing : Zone → Bool
-holdsNothing z = isZero (z .address) && isZero (z .range) && isZero (z .status .actual) && groupsZero z && isOff (z .status .state) && isDeadline (z .watch) && isNew (z .origin)
+holdsNothing z = isZero (z .address) && isZero (z .range) && isZero (z .status .actual) && isZero (z .kilograms) && (groupsZero z && isOff (z .status .state) && isDeadline (z .watch) && isNew (z .origin))
 
--- what document 01 asks of each zone of a sound record, with its source and input (Req 08): soundness without the rule that a window opens before it closes
+-- what document 01 asks of each zone of a sound record, with its source and input (Req 08) and its kilograms (Req 07): soundness without the rule that a window opens before it closes
 unfoldable pub zoneOtherwiseSound : Zone → Bool
 zoneOtherwiseSound z = cond (z .present) (presentOtherwiseSound z) (holdsNothing z)
 
@@ -118,16 +124,19 @@ abbrev pub stateNumbered : ℕ → State
 stateNumbered n = cond (eqb n 0) Off (cond (eqb n 1) On (cond (eqb n 2) Calibration Error))
 
 abbrev pub withStatus : Zone → Status → Zone
-withStatus z status = record { present = z .present; address = z .address; range = z .range; status = status; watch = z .watch; settings = z .settings; origin = z .origin }
+withStatus z status = record { present = z .present; address = z .address; range = z .range; status = status; watch = z .watch; settings = z .settings; origin = z .origin; kilograms = z .kilograms }
 
 abbrev pub withWatch : Zone → Watch → Zone
-withWatch z watch = record { present = z .present; address = z .address; range = z .range; status = z .status; watch = watch; settings = z .settings; origin = z .origin }
+withWatch z watch = record { present = z .present; address = z .address; range = z .range; status = z .status; watch = watch; settings = z .settings; origin = z .origin; kilograms = z .kilograms }
 
 abbrev pub withSettings : Zone → Settings → Zone
-withSettings z settings = record { present = z .present; address = z .address; range = z .range; status = z .status; watch = z .watch; settings = settings; origin = z .origin }
+withSettings z settings = record { present = z .present; address = z .address; range = z .range; status = z .status; watch = z .watch; settings = settings; origin = z .origin; kilograms = z .kilograms }
 
 abbrev pub withOrigin : Zone → Origin → Zone
-withOrigin z origin = record { present = z .present; address = z .address; range = z .range; status = z .status; watch = z .watch; settings = z .settings; origin = origin }
+withOrigin z origin = record { present = z .present; address = z .address; range = z .range; status = z .status; watch = z .watch; settings = z .settings; origin = origin; kilograms = z .kilograms }
+
+abbrev pub withKilograms : Zone → ℕ → Zone
+withKilograms z kilograms = record { present = z .present; address = z .address; range = z .range; status = z .status; watch = z .watch; settings = z .settings; origin = z .origin; kilograms = kilograms }
 
 -- the zone with the figures of one group set
 abbrev pub withFigures : Zone → Figures → Zone

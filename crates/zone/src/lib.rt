@@ -3,11 +3,14 @@
 // A zone goes in by value and comes back by value; no function here knows of another zone. What is
 // right is written in specs/: Table.antt has document 01's table of command groups, Figures.antt when a
 // group's figures are in range, Sources.antt who sets the temperature, Zones.antt the zone itself.
+mod bookings;
 mod figures;
 mod sources;
 mod status;
 mod zones;
 
+pub use bookings::booking_in_range;
+pub use bookings::more_in_range;
 pub use figures::Command;
 pub use figures::DeadlineFigures;
 pub use figures::Figures;

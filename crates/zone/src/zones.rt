@@ -1,4 +1,5 @@
 // The zone: what it keeps, when it is sound, what is read from it and written to it, how it is mended.
+use crate::bookings::booking_in_range;
 use crate::figures::DeadlineFigures;
 use crate::figures::Figures;
 use crate::figures::Group;
@@ -18,7 +19,7 @@ ghost use mathlib.Core.Bool.{true};
 ghost use Prim.Native.Nat.{_<_};
 ghost use Rattle.zone.specs.Inner.{beginOf};
 ghost use Rattle.zone.specs.Sources.{setpointInUse};
-ghost use Rattle.zone.specs.Zones.{watchFigures, figuresOf, newZone, emptyZone, addressInRange, rangeKnown, groupsEachInRange, presentOtherwiseSound, isDeadline, groupsZero, holdsNothing, zoneOtherwiseSound, windowOpens, zoneSound, holds, withStatus, withWatch, withSettings, withOrigin, withFigures, openedWatch, mended, endOf};
+ghost use Rattle.zone.specs.Zones.{watchFigures, figuresOf, newZone, emptyZone, addressInRange, rangeKnown, groupsEachInRange, presentOtherwiseSound, isDeadline, groupsZero, holdsNothing, zoneOtherwiseSound, windowOpens, zoneSound, holds, withStatus, withWatch, withSettings, withOrigin, withKilograms, withFigures, openedWatch, mended, endOf};
 
 // The heating watch: a deadline or a window, each with its own figures.
 pub enum Watch {
@@ -41,6 +42,7 @@ pub struct Zone {
     pub watch: Watch,
     pub settings: Settings,
     pub origin: Origin,
+    pub kilograms: u32,
 }
 
 impl Watch {
@@ -133,6 +135,7 @@ impl Zone {
                 source: Source::Interface,
                 millivolts: 0,
             },
+            kilograms: 0,
         }
     }
 
@@ -167,6 +170,7 @@ impl Zone {
                 source: Source::Interface,
                 millivolts: 0,
             },
+            kilograms: 0,
         }
     }
 
@@ -246,6 +250,7 @@ impl Zone {
             watch: watch,
             settings: settings,
             origin: origin,
+            kilograms: self.kilograms,
         }
     }
 
@@ -261,6 +266,14 @@ impl Zone {
         ensures { λ r. ⌜ r ≡ withOrigin self origin ⌝ }
     {
         self.origin = origin;
+        self
+    }
+
+    // The zone with so many kilograms on it.
+    pub fn with_kilograms(mut self, kilograms: u32) -> Zone
+        ensures { λ r. ⌜ r ≡ withKilograms self kilograms ⌝ }
+    {
+        self.kilograms = kilograms;
         self
     }
 
@@ -313,8 +326,8 @@ impl Zone {
         self.is_otherwise_sound() & self.window_opens()
     }
 
-    // Soundness without the rule for windows: a present zone has every figure and its input in their
-    // ranges, and an absent one is empty.
+    // Soundness without the rule for windows: a present zone has every figure, its input and its
+    // kilograms in their ranges, and an absent one is empty.
     pub fn is_otherwise_sound(self) -> bool
         ensures { λ r. ⌜ r ≡ zoneOtherwiseSound self ⌝ }
     {
@@ -334,6 +347,7 @@ impl Zone {
             & range_known(self.range)
             & actual_in_range(status.actual)
             & input_in_range(origin.millivolts)
+            & booking_in_range(self.kilograms)
             & self.groups_each_in_range()
     }
 
@@ -357,10 +371,8 @@ impl Zone {
         (self.address == 0)
             & (self.range == 0)
             & (status.actual == 0)
-            & self.groups_zero()
-            & state.is_off()
-            & watch.is_deadline()
-            & origin.is_new()
+            & (self.kilograms == 0)
+            & (self.groups_zero() & state.is_off() & watch.is_deadline() & origin.is_new())
     }
 
     fn groups_zero(self) -> bool

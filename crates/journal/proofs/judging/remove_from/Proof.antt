@@ -1,4 +1,4 @@
--- A missing zone is refused; else it is emptied.
+-- A missing zone is refused; else it decides.
 use Rattle.journal.proofs.judging.remove_from.Statement.{statement}
 use Rattle.journal.proofs.judging.remove_from.Tie as tie
 
@@ -6,7 +6,7 @@ returns : tie.Need-returns
 returns c = rw (← (c .before .is-missing .ensures), c .if1 .taken)
 
 returns-2 : tie.Need-returns-2
-returns-2 c = rw (← (c .before .is-missing .ensures), c .if1 .left)
+returns-2 c = rw (← (c .before .before .is-missing .ensures), c .before .if1 .left) (c .removed .ensures)
 
 pub remove-from-spec : {M : Type 1} → statement M
 remove-from-spec =
@@ -14,4 +14,5 @@ remove-from-spec =
     (tie.spec
     (λ c κs. tt)
     returns
+    (λ c κs. tt)
     returns-2)

@@ -24,6 +24,9 @@ returns-6 c = rw (c .before .enum-told3 .given .1) (c .emptied .ensures)
 returns-7 : tie.Need-returns-7
 returns-7 c = rw (c .before .before .self4 .given .1) (c .with-origin .ensures)
 
+returns-8 : tie.Need-returns-8
+returns-8 c = rw (c .before .before .self5 .given .1) (c .with-kilograms .ensures)
+
 pub after-spec : {M : Type 1} → statement M
 after-spec =
     tie.close
@@ -40,10 +43,13 @@ after-spec =
     (λ c κs. search needs)
     (λ c. search needs)
     (λ c κs. search needs)
+    (λ c. search needs)
+    (λ c κs. search needs)
     returns
     returns-2
     returns-3
     returns-4
     returns-5
     returns-6
-    returns-7)
+    returns-7
+    returns-8)

@@ -11,9 +11,12 @@ by-voltage-requires c κs =
     let k = small (p .args .self) (p .pre) in
     (omega (arith, k .input), omega (arith, k .range))
 
+returns : tie.Need-returns
+returns c = rw (c .enum-told .given .1)
+
 returns-2 : tie.Need-returns-2
 returns-2 c = rw (c .before .enum-told2 .given .1) (c .by-voltage .ensures)
 
 pub setpoint-in-use-spec : {M : Type 1} → statement M
 setpoint-in-use-spec =
-    tie.close (tie.spec (λ c. search needs) (λ c. search needs) by-voltage-requires (λ c. search needs) returns-2)
+    tie.close (tie.spec (λ c. search needs) (λ c. search needs) by-voltage-requires returns returns-2)
