@@ -9,3 +9,5 @@ pub mod Useless
 pub mod Unsound
 pub mod Sources
 pub mod Unseen
+pub mod Totals
+pub mod Bookings

@@ -3,3 +3,4 @@ pub mod Sessions
 pub mod Changes
 pub mod Demands
 pub mod Sources
+pub mod Bookings

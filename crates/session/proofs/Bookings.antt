@@ -1,0 +1,252 @@
+-- Bookings over calls of every kind: what is answered, that no kilogram is lost or made, and that they follow the head. Assumes nothing.
+use Prim.Native.Nat.{ℕ, _+_, _-_, _<_}
+use mathlib.Core.Path.{_≡_, refl, sym, ap, _∙_}
+use mathlib.Core.Bool.{Bool, true, false, cond, not, _||_}
+use mathlib.Core.List.{List, [], _∷_}
+use native.Mathlib.Omega.{arith}
+use lib.ListN.{length-set}
+use lib.Seq.{getD-set-other}
+use borrow.Author.Tests.{lt-leb, eq-eqb, ne-eqb, not-false}
+use Rattle.zone.specs.declared.figures.Group.the-variants.{Hzbg}
+use Rattle.zone.specs.declared.zones.Zone.{Zone}
+use Rattle.zone.specs.Lists.{isZero}
+use Rattle.zone.specs.Zones.{emptyZone, bookingInRange, withKilograms, mended}
+use Rattle.zone.proofs.Tests.{never}
+use Rattle.zone.proofs.Sound.{absent-empty}
+use Rattle.zone.proofs.Mended.{mended-kilograms}
+use Rattle.card.specs.declared.records.Record.{Record}
+use Rattle.card.specs.Refusals.{Row, _gives_, first}
+use Rattle.card.specs.Records.{emptyRecord, zoneAt, withZone, sound}
+use Rattle.card.specs.Calls.{removeOf, bookOf, shipOf, together, mergeOf, allMended, repairRows, repairOf}
+use Rattle.card.proofs.Storing.{sound-parts, zone-sound}
+use Rattle.card.proofs.Kept.{add-exactly}
+use Rattle.card.proofs.Sets.{book-at-zone, ship-at-zone, book-after, ship-after, ship-held, remove-held}
+use Rattle.card.proofs.Merging.{merge-at-zones, merge-after, merge-folds}
+use Rattle.session.specs.Sessions.{Quiet, add, remove, report, apply, chooseSource, setpointInUse, book, ship, merge, repair, Call, inRoom, quiet, answerTo, after, Done, run, Throughout}
+use Rattle.session.specs.Changes.{Merges, merged, Removes, removed, merged-away, Adds, added, Rebooks, booked, shipped, moved-in, Becomes, stays, written, was-reported, was-removed, was-added, was-chosen, was-rebooked, was-mended, NotAdded}
+use Rattle.session.specs.Demands.{refusedSilently, later, PointsAt, books, ships, OtherRoad, by-frame, by-text, Rerouted, over, as-before, other-road}
+use Rattle.session.specs.Bookings.{held, BookingsAreJudged, onAllZones, Amounts, nothing, amounts, counted, doneOf, SinceEmpty, Conserved, NoneOnAbsent, NotRebooked, LeftAlone, ByEitherRoad, FollowsTheHead}
+use Rattle.session.proofs.Answering.{record-kept, by-done}
+use Rattle.session.proofs.Changes.{becomes}
+use Rattle.session.proofs.Demand1.{stays-removed, stays-gone, removal-sound, call-three}
+use Rattle.session.proofs.Demand3.{stays-sound, same-record, same-end}
+use Rattle.session.proofs.Unsound.{one-stays}
+use Rattle.session.proofs.Totals.{total-set, total-same, total-map}
+
+-- ---- what each call answers
+
+pub judged : BookingsAreJudged
+unfolding removeOf bookOf shipOf mergeOf
+judged r n p = record {
+  removing = rw (p .sound-record, lt-leb 16 n (p .below), p .present) (unless (isZero (held r n)) 15);
+  booking = λ kg. rw (p .sound-record, lt-leb 16 n (p .below), p .present);
+  shipping = λ kg. rw (p .sound-record, lt-leb 16 n (p .below), p .present);
+  with-itself = rw (p .sound-record, lt-leb 16 n (p .below), p .present, eq-eqb n n refl);
+  merging = λ b q u. rw (p .sound-record, lt-leb 16 n (p .below), p .present, lt-leb 16 b (q .below), q .present, ne-eqb n b u) (unless (bookingInRange (held r b + held r n)) 16);
+}
+  where
+    unless : (t : Bool) (number : ℕ) → first ((not t gives number) ∷ []) ≡ cond t 0 number
+    unless true number = refl
+    unless false number = refl
+
+-- ---- what leaves the kilograms alone
+
+-- a zone that is removed, and not by merging, holds nothing; nor does one that is added
+removed-held : (n : ℕ) (r : Record) (call : Call) → NotRebooked n r call → Removes n r call → held r n ≡ 0
+removed-held n r call u (removed d) = remove-held r n d
+removed-held n r call u (merged-away b w) = absurd (u .not-merged b w)
+
+added-held : (n address range : ℕ) (r : Record) (call : Call) → zoneAt r n .present ≡ false → Adds n address range r call → held r n ≡ 0
+added-held n address range r call p (added d) =
+    let s = not-false (sound r) (add-exactly r n address range .done .0 d 0) in
+    ap (λ (z : Zone). z .kilograms) (absent-empty (zoneAt r n) p (zone-sound r n s))
+
+one-left : (n : ℕ) (r : Record) (call : Call) → NotRebooked n r call → held (after r call) n ≡ held r n
+one-left n r call u = by-change (becomes r call n)
+  where
+    by-change : {z : Zone} → Becomes r n call z → z .kilograms ≡ held r n
+    by-change (stays s) = ap (λ (z : Zone). z .kilograms) s
+    by-change (written f w q s) = s .kilograms
+    by-change (was-reported state actual w q s) = s .kilograms
+    by-change (was-removed w q s) = ap (λ (z : Zone). z .kilograms) s ∙ sym (removed-held n r call u w)
+    by-change (was-added address range w q s) = ap (λ (z : Zone). z .kilograms) s ∙ sym (added-held n address range r call q w)
+    by-change (was-chosen source millivolts w q s) = s .kilograms
+    by-change (was-rebooked kg w q s) = absurd (u .not-rebooked kg w)
+    by-change (was-mended window w q s) = s .kilograms
+
+pub left-alone : LeftAlone
+left-alone r n [] u = refl
+left-alone r n (call ∷ calls) u = left-alone (after r call) n calls (u .1) ∙ one-left n r call (u .0)
+
+pub none-on-absent : NoneOnAbsent
+none-on-absent r calls n s p = ap (λ (z : Zone). z .kilograms) (absent-empty (zoneAt (run r calls) n) p (zone-sound (run r calls) n (stays-sound r calls s)))
+
+-- ---- no kilogram is lost or made
+
+-- the calls that may move kilograms
+quietMoves : Quiet → Bool
+quietMoves (add n a range) = false
+quietMoves (remove n) = false
+quietMoves (report n state actual) = false
+quietMoves (apply n c) = false
+quietMoves (chooseSource n source millivolts) = false
+quietMoves (setpointInUse n) = false
+quietMoves (book n kg) = true
+quietMoves (ship n kg) = true
+quietMoves (merge a b) = true
+quietMoves repair = false
+
+moves : Call → Bool
+moves (inRoom call room) = false
+moves (quiet call) = quietMoves call
+
+merges-move : (a b : ℕ) (r : Record) (call : Call) → Merges a b r call → moves call ≡ true
+unfolding moves quietMoves
+merges-move a b r call (merged d) = refl
+
+rebooks-move : (n kg : ℕ) (r : Record) (call : Call) → Rebooks n kg r call → moves call ≡ true
+unfolding moves quietMoves
+rebooks-move n kg r call (booked amount d e) = refl
+rebooks-move n kg r call (shipped amount d e) = refl
+rebooks-move n kg r call (moved-in a w e) = merges-move a n r call w
+
+not-rebooked : (n : ℕ) (r : Record) (call : Call) → moves call ≡ false → NotRebooked n r call
+not-rebooked n r call e = record { not-rebooked = λ kg w. never (sym e ∙ rebooks-move n kg r call w); not-merged = λ b w. never (sym e ∙ merges-move n b r call w) }
+
+repair-level : (r : Record) → onAllZones (after r (quiet repair)) ≡ onAllZones r
+unfolding repairOf
+repair-level r = by-number (isZero (first (repairRows r)))
+  where
+    by-number : (done : Bool) → onAllZones (cond done (allMended r) r) ≡ onAllZones r
+    by-number true = total-map (λ (z : Zone). z .kilograms) mended mended-kilograms (r .zones)
+    by-number false = refl
+
+-- every other call leaves the sum, in a sound record zone by zone; one that is not sound is left as it is, but for a repair
+level : (r : Record) (call : Call) → moves call ≡ false → onAllZones (after r call) ≡ onAllZones r
+level r call e = by-soundness (sound r) refl
+  where
+    by-soundness : (t : Bool) → sound r ≡ t → onAllZones (after r call) ≡ onAllZones r
+    by-soundness true s =
+        total-same (λ (z : Zone). z .kilograms) emptyZone (r .zones) (after r call .zones)
+        (sound-parts (after r call) (stays-sound r (call ∷ []) s) .sixteen ∙ sym (sound-parts r s .sixteen))
+        (λ n. one-left n r call (not-rebooked n r call e))
+    by-soundness false s = one-stays r call s (λ x. onAllZones x ≡ onAllZones r) refl (λ q. repair-level r)
+
+abbrev Balanced : Record → Call → Type 0
+Balanced r call = onAllZones (after r call) + counted r call (amounts call .ships) ≡ onAllZones r + counted r call (amounts call .books)
+
+-- what is not done counts nothing, nor what asks for nothing
+refused-balanced : (r : Record) (call : Call) → (Done r call → ⊥) → Balanced r call
+refused-balanced r call u = rw (record-kept r call u, ne-eqb (answerTo r call .said .number) 0 u)
+
+level-balanced : (r : Record) (call : Call) → moves call ≡ false → amounts call ≡ nothing → Balanced r call
+level-balanced r call e n = rw (n, level r call e)
+
+-- a zone's kilograms set anew
+set-level : (r : Record) (n kg : ℕ) → sound r ≡ true → n < 16 → onAllZones (withZone r n (withKilograms (zoneAt r n) kg)) + held r n ≡ onAllZones r + kg
+set-level r n kg s l =
+    let h = sound-parts r s .sixteen in
+    total-set (λ (z : Zone). z .kilograms) emptyZone (r .zones) n (withKilograms (zoneAt r n) kg) (omega arith)
+
+book-balanced : (r : Record) (n kg : ℕ) → Balanced r (quiet (book n kg))
+book-balanced r n kg =
+    by-done r (quiet (book n kg))
+    (λ d.
+    let k = book-at-zone r n kg d in
+    let e = set-level r n (held r n + kg) (k .sound-record) (k .below) in
+    rw (book-after r n kg d, d) (omega (arith, e)))
+    (refused-balanced r (quiet (book n kg)))
+
+ship-balanced : (r : Record) (n kg : ℕ) → Balanced r (quiet (ship n kg))
+ship-balanced r n kg =
+    by-done r (quiet (ship n kg))
+    (λ d.
+    let k = ship-at-zone r n kg d in
+    let e = set-level r n (held r n - kg) (k .sound-record) (k .below) in
+    rw (ship-after r n kg d, d) (omega (arith, e, ship-held r n kg d)))
+    (refused-balanced r (quiet (ship n kg)))
+
+-- first zone b gets the sum, then zone a is emptied
+merge-balanced : (r : Record) (a b : ℕ) → Balanced r (quiet (merge a b))
+merge-balanced r a b =
+    by-done r (quiet (merge a b))
+    (λ d.
+    let k = merge-at-zones r a b d in
+    let moved = withZone r b (withKilograms (zoneAt r b) (together r a b)) in
+    let l = sound-parts r (k .sound-record) .sixteen in
+    let long = length-set (r .zones) b (withKilograms (zoneAt r b) (together r a b)) in
+    let e = set-level r b (together r a b) (k .sound-record) (k .below-b) in
+    let there = ap (λ (z : Zone). z .kilograms) (getD-set-other (r .zones) b a (withKilograms (zoneAt r b) (together r a b)) emptyZone (k .apart)) in
+    let f = total-set (λ (z : Zone). z .kilograms) emptyZone (moved .zones) a emptyZone (omega (arith, k .below-a)) in
+    rw (merge-after r a b d, d) (omega (arith, e, f, there)))
+    (refused-balanced r (quiet (merge a b)))
+
+balanced : (r : Record) (call : Call) → Balanced r call
+unfolding moves quietMoves
+balanced r (inRoom call room) = level-balanced r (inRoom call room) refl refl
+balanced r (quiet (add n a range)) = level-balanced r (quiet (add n a range)) refl refl
+balanced r (quiet (remove n)) = level-balanced r (quiet (remove n)) refl refl
+balanced r (quiet (report n state actual)) = level-balanced r (quiet (report n state actual)) refl refl
+balanced r (quiet (apply n c)) = level-balanced r (quiet (apply n c)) refl refl
+balanced r (quiet (chooseSource n source millivolts)) = level-balanced r (quiet (chooseSource n source millivolts)) refl refl
+balanced r (quiet (setpointInUse n)) = level-balanced r (quiet (setpointInUse n)) refl refl
+balanced r (quiet (book n kg)) = book-balanced r n kg
+balanced r (quiet (ship n kg)) = ship-balanced r n kg
+balanced r (quiet (merge a b)) = merge-balanced r a b
+balanced r (quiet repair) = level-balanced r (quiet repair) refl refl
+
+pub conserved : Conserved
+conserved r [] = refl
+conserved r (call ∷ calls) = omega (arith, balanced r call, conserved (after r call) calls)
+
+pub since-empty : SinceEmpty
+since-empty calls =
+    let e : onAllZones emptyRecord ≡ 0 = refl in
+    omega (arith, e, conserved emptyRecord calls)
+
+-- ---- by either road
+
+uncounted : (t : Bool) → _≡_ {A = ℕ} (cond t 0 0) 0
+uncounted true = refl
+uncounted false = refl
+
+none-counted : (part : Amounts → ℕ) → part nothing ≡ 0 → (r : Record) (call : Call) → amounts call ≡ nothing → counted r call (part (amounts call)) ≡ 0
+none-counted part e r call n = rw (n, e) (uncounted (isZero (answerTo r call .said .number)))
+
+-- neither way to send a command books or ships
+road-counts : (part : Amounts → ℕ) → part nothing ≡ 0 → (r : Record) (x y : Call) → OtherRoad r x y → counted r x (part (amounts x)) ≡ counted r y (part (amounts y))
+road-counts part e r x y (by-frame n c room room′ p k h h′) = none-counted part e r x refl ∙ sym (none-counted part e r y refl)
+road-counts part e r x y (by-text n c room room′ p k h h′) = none-counted part e r x refl ∙ sym (none-counted part e r y refl)
+
+same-done : (part : Amounts → ℕ) → part nothing ≡ 0 → {r : Record} {xs ys : List Call} → Rerouted after OtherRoad r xs ys → doneOf part r xs ≡ doneOf part r ys
+same-done part e over = refl
+same-done part e {r} (as-before x rest) = ap (λ (n : ℕ). counted r x (part (amounts x)) + n) (same-done part e rest)
+same-done part e {r} (other-road {xs = xs} {ys = ys} x y o rest) =
+    let tail = same-done part e rest ∙ ap (λ (s : Record). doneOf part s ys) (same-record r x y o) in
+    λ i. road-counts part e r x y o i + tail i
+
+pub by-either-road : ByEitherRoad
+by-either-road r xs ys w = record { bookings = same-done (λ a. a .books) refl w; shipments = same-done (λ a. a .ships) refl w; left = same-end r xs ys w }
+
+-- ---- the buyer's case
+
+-- a call that points at a zone that was merged into another
+merged-three : (r : Record) (a b : ℕ) (calls : List Call) (call : Quiet) → Done r (quiet (merge a b)) → PointsAt a call → Throughout (NotAdded a) (after r (quiet (merge a b))) calls
+    → answerTo (later r (quiet (merge a b)) calls) (quiet call) ≡ refusedSilently 3 (later r (quiet (merge a b)) calls) []
+merged-three r a b calls call d p u =
+    let w = merged-away b (merged d) in
+    let s = stays-sound r (quiet (merge a b) ∷ calls) (removal-sound r a (quiet (merge a b)) w) in
+    call-three (later r (quiet (merge a b)) calls) a call s (stays-removed r a (quiet (merge a b)) calls w u) p
+
+pub follows-the-head : FollowsTheHead
+follows-the-head r a b d =
+    let folds = merge-folds r a b d in
+    let w = merged-away b (merged d) in
+    record {
+      folded = folds;
+      heating-limit = folds .moved .groups Hzbg;
+      empty = λ calls u. stays-removed r a (quiet (merge a b)) calls w u;
+      gone = λ calls room h. stays-gone r a (quiet (merge a b)) calls room w h;
+      no-booking = λ calls kg u. merged-three r a b calls (book a kg) d (books kg) u;
+      no-shipment = λ calls kg u. merged-three r a b calls (ship a kg) d (ships kg) u;
+    }
