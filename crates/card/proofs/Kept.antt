@@ -1,4 +1,4 @@
--- What every call keeps, and when it gives each number: proved once, of a list of refusals over one stored zone, and cited for each call. Assumes nothing.
+-- What every call keeps, and when it gives each number: proved once, of a list of refusals over what is stored, and cited for each call. Assumes nothing.
 use Prim.Native.Nat.{ℕ, suc, _+_, _-_, _<_}
 use mathlib.Core.Path.{_≡_, refl}
 use mathlib.Core.Bool.{Bool, true, false, cond, not, _&&_}

@@ -2,13 +2,14 @@
 use Prim.Native.Nat.{ℕ, _<_}
 use mathlib.Core.Path.{_≡_, refl, ap, _∙_, subst, sym}
 use mathlib.Core.Logic.{_⊎_, inl, inr}
-use mathlib.Core.Bool.{true, false, not}
+use mathlib.Core.Bool.{true, not}
 use mathlib.Core.List.{[]}
-use lib.Dec.{leb, eqb}
+use lib.Dec.{leb}
 use lib.Seq.{getD-set-other}
 use borrow.Author.Tests.{leb-false, eqb-false, not-false}
 use Rattle.zone.specs.declared.zones.Zone.{Zone}
 use Rattle.zone.specs.Zones.{emptyZone, bookingInRange, withKilograms}
+use Rattle.zone.specs.Rules.{SetsKilograms}
 use Rattle.zone.proofs.Tests.{neither}
 use Rattle.zone.proofs.Sound.{empty-sound, kilograms-sound}
 use Rattle.zone.proofs.Written.{sets-kilograms}
@@ -47,47 +48,49 @@ merge-at-zones r a b e =
       in-range = not-false (bookingInRange (together r a b)) (passed 3);
     }
 
--- the record once the kilograms have moved, and before zone a is emptied
-abbrev moved : Record → ℕ → ℕ → Record
-moved r a b = withZone r b (withKilograms (zoneAt r b) (together r a b))
+-- ---- two zones stored, first b and then a
 
-moved-sound : (r : Record) (a b : ℕ) → AtZones r a b → sound (moved r a b) ≡ true
-moved-sound r a b k =
+two-others : (r : Record) (a b m : ℕ) (y z : Zone) → (m ≡ a → ⊥) → (m ≡ b → ⊥) → zoneAt (withZone (withZone r b z) a y) m ≡ zoneAt r m
+two-others r a b m y z u v = getD-set-other (withZone r b z .zones) a m y emptyZone u ∙ getD-set-other (r .zones) b m z emptyZone v
+
+second-stays : (r : Record) (a b : ℕ) (y z : Zone) → AtZones r a b → zoneAt (withZone (withZone r b z) a y) b ≡ z
+second-stays r a b y z k = getD-set-other (withZone r b z .zones) a b y emptyZone (λ q. k .apart (sym q)) ∙ stored-there r b z (k .sound-record) (k .below-b)
+
+-- zone a, emptied, is set free, whatever is stored at b
+first-freed : (r : Record) (a b : ℕ) (z : Zone) → AtZones r a b → sound (withZone r b z) ≡ true → Frees r a (withZone (withZone r b z) a emptyZone)
+first-freed r a b z k s =
+    let there = getD-set-other (r .zones) b a z emptyZone (k .apart) in
+    let f = emptied-frees (withZone r b z) a s (k .below-a) (ap (λ (z : Zone). z .present) there ∙ k .present-a) in
+    let address = ap (λ (z : Zone). z .address) there in
+    record { zone = f .zone; unheld = rw address at (f .unheld); number = f .number; address = rw address at (f .address) }
+
+-- ---- the merging
+
+-- zone b with the kilograms of both is sound
+joined-sound : (r : Record) (a b : ℕ) → AtZones r a b → sound (withZone r b (withKilograms (zoneAt r b) (together r a b))) ≡ true
+joined-sound r a b k =
     stored-same r b (withKilograms (zoneAt r b) (together r a b)) (k .sound-record)
     (kilograms-sound (zoneAt r b) (together r a b) (k .present-b) (zone-sound r b (k .sound-record)) (k .in-range))
     refl
     refl
 
-moved-a : (r : Record) (a b : ℕ) → AtZones r a b → zoneAt (moved r a b) a ≡ zoneAt r a
-moved-a r a b k = getD-set-other (r .zones) b a (withKilograms (zoneAt r b) (together r a b)) emptyZone (k .apart)
-
-merged-others : (r : Record) (a b m : ℕ) → (m ≡ a → ⊥) → (m ≡ b → ⊥) → zoneAt (merged r a b) m ≡ zoneAt r m
-merged-others r a b m u v =
-    getD-set-other (moved r a b .zones) a m emptyZone emptyZone u
-    ∙ getD-set-other (r .zones) b m (withKilograms (zoneAt r b) (together r a b)) emptyZone v
-
 pub merge-keeps : (r : Record) (a b : ℕ) → KeepsButTwo r a b (mergeOf r a b)
 unfolding mergeOf
 merge-keeps r a b =
     keeps-besides r (λ m. (m ≡ a) ⊎ (m ≡ b)) (mergeRows r a b) [] (merged r a b)
-    (λ m u. merged-others r a b m (λ e. u (inl e)) (λ e. u (inr e)))
-    (λ e s. stored-new (moved r a b) a emptyZone (moved-sound r a b (merge-at-zones r a b e)) empty-sound refl)
+    (λ m u. two-others r a b m _ _ (λ e. u (inl e)) (λ e. u (inr e)))
+    (λ e s. stored-new (withZone r b _) a _ (joined-sound r a b (merge-at-zones r a b e)) empty-sound refl)
 
 pub merge-after : (r : Record) (a b : ℕ) → mergeOf r a b .number ≡ 0 → mergeOf r a b .after ≡ merged r a b
 unfolding mergeOf
 merge-after r a b e = rw e
 
-merged-frees : (r : Record) (a b : ℕ) → AtZones r a b → Frees r a (merged r a b)
-merged-frees r a b k =
-    let there = moved-a r a b k in
-    let f = emptied-frees (moved r a b) a (moved-sound r a b k) (k .below-a) (ap (λ (z : Zone). z .present) there ∙ k .present-a) in
-    let address = ap (λ (z : Zone). z .address) there in
-    record { zone = f .zone; unheld = rw address at (f .unheld); number = f .number; address = rw address at (f .address) }
-
 pub merge-folds : (r : Record) (a b : ℕ) → mergeOf r a b .number ≡ 0 → Folds r a b (mergeOf r a b .after)
 merge-folds r a b e =
     let k = merge-at-zones r a b e in
-    let here : zoneAt (merged r a b) b ≡ withKilograms (zoneAt r b) (together r a b)
-    = getD-set-other (moved r a b .zones) a b emptyZone emptyZone (λ q. k .apart (sym q)) ∙ stored-there r b (withKilograms (zoneAt r b) (together r a b)) (k .sound-record) (k .below-b) in
     rw (merge-after r a b e)
-    (record { removed = merged-frees r a b k; moved = rw here (sets-kilograms (zoneAt r b) (together r a b)); others = merged-others r a b })
+    (record {
+      removed = first-freed r a b _ k (joined-sound r a b k);
+      moved = subst (SetsKilograms (zoneAt r b) (together r a b)) (sym (second-stays r a b _ _ k)) (sets-kilograms (zoneAt r b) (together r a b));
+      others = λ m u v. two-others r a b m _ _ u v;
+    })

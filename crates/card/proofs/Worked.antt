@@ -18,7 +18,7 @@ use Rattle.card.specs.declared.records.Found.the-variants.{At, Nowhere}
 use Rattle.card.specs.Answers.{Result}
 use Rattle.card.specs.Records.{emptyRecord, withZone, differ, otherwiseSound, sound, findFrom, findOf}
 use Rattle.card.specs.Calls.{addOf, removeOf, reportOf, applyOf, chooseSourceOf, setpointTold, setpointInUseOf, bookOf, shipOf, mergeOf, oldEndsFrom, repairOf}
-use Rattle.card.specs.Rules.{toldIn, leaves}
+use Rattle.card.specs.Rules.{EmptyIsSound, toldIn, leaves}
 
 -- ---- soundness
 
@@ -26,7 +26,7 @@ new-zone-sound : zoneSound (newZone 33 300) ≡ true
 unfolding zoneSound zoneOtherwiseSound eachInRange
 new-zone-sound = refl
 
-empty-record-sound : sound emptyRecord ≡ true
+pub empty-record-sound : EmptyIsSound
 unfolding sound otherwiseSound differ zoneSound zoneOtherwiseSound allZero
 empty-record-sound = refl
 
@@ -264,15 +264,18 @@ shipped : map (λ a. shipOf (holding (a .asks .0)) (a .asks .1) (a .asks .2) .nu
 unfolding shipping holding start addOf shipOf sound otherwiseSound differ zoneSound zoneOtherwiseSound inRange eachInRange allZero
 shipped = refl
 
--- "Booking adds, shipping subtracts": 40,000 kg, and then 1,500 of them
+-- "Booking adds, shipping subtracts": 40,000 kg booked on top of 1, and 1,500 kg shipped of 40,000
 adds-and-subtracts : (bookOf (holding 1) 5 40000 .after ≡ holding 40001) × (shipOf (holding 40000) 5 1500 .after ≡ holding 38500)
 unfolding holding start addOf bookOf shipOf sound otherwiseSound differ zoneSound zoneOtherwiseSound inRange eachInRange allZero
 adds-and-subtracts = (refl, refl)
 
--- zone 4, of 500 degrees, in the state On and with a setpoint of 185, beside zone 5 as it was added, with so many kilograms on each
+-- zones 4 and 5, whose heating limits are 7 and 5 seconds, zone 4 in the state On, with so many kilograms on each
 heads : ℕ → ℕ → Record
-unfolding holding start
-heads on4 on5 = withZone (holding on5) 4 (withKilograms (withStatus (Rattle.zone.specs.Zones.withFigures (newZone 34 500) (SolwSetpoint (record { setpoint = 185 }))) (record { state = stateNumbered 1; actual = 20 })) on4)
+unfolding start
+heads on4 on5 = withZone (withZone start 5 (limited (newZone 33 300) 50 on5)) 4 (withStatus (limited (newZone 34 500) 70 on4) (record { state = stateNumbered 1; actual = 20 }))
+  where
+    limited : Zone → ℕ → ℕ → Zone
+    limited z limit kilograms = withKilograms (Rattle.zone.specs.Zones.withFigures z (HzbgLimit (record { time = limit }))) kilograms
 
 -- the kilograms on zones 4 and 5, and which zone is merged into which
 merging : List (Asked (ℕ × ℕ × ℕ × ℕ))
@@ -294,12 +297,12 @@ merging =
     ∷ []
 
 merged-by-number : map (λ a. mergeOf (heads (a .asks .0) (a .asks .1)) (a .asks .2) (a .asks .3) .number) merging ≡ map (λ a. a .gives) merging
-unfolding merging heads holding start addOf mergeOf sound otherwiseSound differ zoneSound zoneOtherwiseSound inRange eachInRange allZero
+unfolding merging heads start addOf mergeOf sound otherwiseSound differ zoneSound zoneOtherwiseSound inRange eachInRange allZero
 merged-by-number = refl
 
--- "fitters folded head 5 into head 4": forty tonnes stand on head 4, which keeps its figures, and head 5 is gone; and the other way round
+-- "fitters folded head 5 into head 4": forty tonnes stand on head 4, which keeps its heating limit, and head 5 is gone; and the other way round
 folded : (mergeOf (heads 2500 40000) 5 4 .after ≡ withZone (heads 42500 0) 5 emptyZone) × (mergeOf (heads 2500 40000) 4 5 .after ≡ withZone (heads 0 42500) 4 emptyZone)
-unfolding heads holding start addOf mergeOf sound otherwiseSound differ zoneSound zoneOtherwiseSound inRange eachInRange allZero
+unfolding heads start addOf mergeOf sound otherwiseSound differ zoneSound zoneOtherwiseSound inRange eachInRange allZero
 folded = (refl, refl)
 
 -- ---- a repair (document 02, Req 06)

@@ -1,4 +1,4 @@
--- Document 01's table of answer numbers, with those of document 02, and what is seen of an answer: its number, its values and what is handed back.
+-- Document 01's table of answer numbers, with 15 to 17 of document 02 (14 is that of a request which is not met yet), and what is seen of an answer: its number, its values and what is handed back.
 use Prim.Native.Nat.{ℕ}
 use mathlib.Core.List.{List, [], _∷_}
 use Rattle.zone.specs.declared.figures.Figures.{Figures}
@@ -37,7 +37,7 @@ refusalNumber AddressHeld = 11
 refusalNumber AlreadyPresent = 12
 -- "log line unreadable (the program only)"
 refusalNumber Unreadable = 13
--- of document 02, Req 07: "15 for removing a zone with kilograms on it"
+-- document 02, Req 07, none of which has a reply: "15 for removing a zone with kilograms on it"
 refusalNumber StillBooked = 15
 -- "16 for booking or shipping 0, more than is held when shipping, or a result above the limit"
 refusalNumber BadAmount = 16

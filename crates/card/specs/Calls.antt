@@ -133,7 +133,7 @@ bookAt z kilograms = record {
 unfoldable pub bookOf : Record → ℕ → ℕ → Result Record
 bookOf r n kilograms = atZone r n (bookAt (zoneAt r n) kilograms)
 
--- "shipping subtracts": 2, 3, in zoneRows, and "16 for .. shipping 0, more than is held when shipping"; what is left of a sound zone's is never above the limit
+-- "shipping subtracts": 2, 3, in zoneRows, and "16 for .. shipping 0, more than is held when shipping"; what is left of a sound zone's kilograms is never above the limit
 abbrev pub shipAt : Zone → ℕ → Judgement
 shipAt z kilograms = record {
   rows = ((isZero kilograms || ltb (z .kilograms) kilograms) gives 16) ∷ [];

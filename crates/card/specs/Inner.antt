@@ -12,7 +12,7 @@ use Rattle.card.specs.declared.answers.Answer.the-variants as answer
 use Rattle.card.specs.declared.judgements.Asked.{Asked}
 use Rattle.card.specs.declared.judgements.Asked.the-variants.{Sent, Failed}
 use Rattle.card.specs.declared.judgements.Verdict.{Verdict}
-use Rattle.card.specs.declared.judgements.Verdict.the-variants.{Refuses, Tells, Writes, Reports, Adds, Removes, Chooses, Holds}
+use Rattle.card.specs.declared.judgements.Verdict.the-variants.{Refuses, Tells, Writes, Reports, Adds, Removes, Chooses, Rebooks}
 use Rattle.card.specs.declared.records.Record.{Record}
 use Rattle.card.specs.declared.records.Reached.{Reached}
 use Rattle.card.specs.declared.records.Reached.the-variants.{There, Stopped}
@@ -39,7 +39,7 @@ answerBy (Reports status) = answer.Done
 answerBy (Adds address range) = answer.Done
 answerBy Removes = answer.Done
 answerBy (Chooses origin) = answer.Done
-answerBy (Holds kilograms) = answer.Done
+answerBy (Rebooks kilograms) = answer.Done
 
 abbrev pub altersBy : Verdict → Bool
 altersBy (Refuses why) = false
@@ -49,7 +49,7 @@ altersBy (Reports status) = true
 altersBy (Adds address range) = true
 altersBy Removes = true
 altersBy (Chooses origin) = true
-altersBy (Holds kilograms) = true
+altersBy (Rebooks kilograms) = true
 
 abbrev pub afterBy : Verdict → Zone → Zone
 afterBy (Refuses why) z = z
@@ -59,7 +59,7 @@ afterBy (Reports status) z = withStatus z status
 afterBy (Adds address range) z = newZone address range
 afterBy Removes z = emptyZone
 afterBy (Chooses origin) z = withOrigin z origin
-afterBy (Holds kilograms) z = withKilograms z kilograms
+afterBy (Rebooks kilograms) z = withKilograms z kilograms
 
 -- what is seen of it: number, values, and the zone afterwards
 abbrev pub verdictSeen : Zone → Verdict → Result Zone

@@ -14,14 +14,18 @@ use Rattle.card.specs.declared.records.OldEnd.{OldEnd}
 use Rattle.card.specs.declared.records.OldEnds.{OldEnds}
 use Rattle.card.specs.Answers.{Result}
 use Rattle.card.specs.Refusals.{Row, _gives_}
-use Rattle.card.specs.Records.{zoneAt, heldIn, otherwiseSound, sound}
+use Rattle.card.specs.Records.{emptyRecord, zoneAt, heldIn, otherwiseSound, sound}
 use Rattle.card.specs.Calls.{addOf, toldAs, Repair, repairOf}
+
+-- The empty record is sound, so what is said of sound records holds from it on. `empty-record-sound`, in proofs/Worked.antt
+abbrev pub EmptyIsSound : Type 0
+EmptyIsSound = sound emptyRecord ≡ true
 
 -- What a call on r keeps, whatever it answers: all but the zones that it may touch
 pub record KeepsBesides (r : Record) (touched : ℕ → Type 0) (o : Result Record) : Type 0 where
   -- "Every refusal hands back the record it was given", and tells nothing
   pub refusal : (o .number ≡ 0 → ⊥) → (o .after ≡ r) × (o .values ≡ [])
-  -- "Adding and removing touch no other zone"; all other calls set what they set in their zone, and merging in its two
+  -- "Adding and removing touch no other zone"; every other call at a zone sets what it sets there, and merging in its two
   pub others : (m : ℕ) → (touched m → ⊥) → zoneAt (o .after) m ≡ zoneAt r m
   -- a sound record stays sound
   pub stays : sound r ≡ true → sound (o .after) ≡ true
@@ -75,7 +79,7 @@ chooseSourceOrder = 2 ∷ 3 ∷ 9 ∷ []
 abbrev pub setpointInUseOrder : List ℕ
 setpointInUseOrder = 2 ∷ 3 ∷ []
 
--- document 02, Req 07: "order 2, 3 (first zone, then second), 17, 16 or 15", of each call those that it may give
+-- document 02, Req 07: "order 2, 3 (first zone, then second), 17, 16 or 15", of each call those that it may give; why a merging has one 3 for both zones, mergeRows says
 abbrev pub bookOrder : List ℕ
 bookOrder = 2 ∷ 3 ∷ 16 ∷ []
 
@@ -95,7 +99,7 @@ abbrev pub InOrder : List Row → List ℕ → Type 0
 InOrder rows printed = numbersIn rows ≡ take (length rows) printed
 
 -- "Removing empties the zone; its number and address may be used again".
--- remove-frees, in proofs/Sets.antt: of the record after zone n of r was removed
+-- remove-frees, in proofs/Sets.antt: of the record after zone n of r was removed; of a merging it is a part of Folds, below
 pub record Frees (r : Record) (n : ℕ) (after : Record) : Type 0 where
   pub zone : zoneAt after n ≡ emptyZone
   -- no zone holds the address that it had

@@ -35,7 +35,7 @@ pub enum Verdict {
     Adds(u32, u32),
     Removes,
     Chooses(Origin),
-    Holds(u32),
+    Rebooks(u32),
 }
 
 impl Verdict {
@@ -50,7 +50,7 @@ impl Verdict {
             Verdict::Adds(_, _) => Answer::Done,
             Verdict::Removes => Answer::Done,
             Verdict::Chooses(_) => Answer::Done,
-            Verdict::Holds(_) => Answer::Done,
+            Verdict::Rebooks(_) => Answer::Done,
         }
     }
 
@@ -66,7 +66,7 @@ impl Verdict {
             Verdict::Adds(_, _) => true,
             Verdict::Removes => true,
             Verdict::Chooses(_) => true,
-            Verdict::Holds(_) => true,
+            Verdict::Rebooks(_) => true,
         }
     }
 
@@ -82,7 +82,7 @@ impl Verdict {
             Verdict::Adds(address, range) => Zone::new(address, range),
             Verdict::Removes => z.emptied(),
             Verdict::Chooses(origin) => z.with_origin(origin),
-            Verdict::Holds(kilograms) => z.with_kilograms(kilograms),
+            Verdict::Rebooks(kilograms) => z.with_kilograms(kilograms),
         }
     }
 }
@@ -156,7 +156,7 @@ pub fn booked(z: Zone, kilograms: u32) -> Verdict
     if (kilograms == 0) | !more_in_range(z.kilograms, kilograms) {
         return Verdict::Refuses(Refusal::BadAmount);
     }
-    Verdict::Holds(z.kilograms + kilograms)
+    Verdict::Rebooks(z.kilograms + kilograms)
 }
 
 // A shipment of so many of the kilograms on a zone.
@@ -166,7 +166,7 @@ pub fn shipped(z: Zone, kilograms: u32) -> Verdict
     if (kilograms == 0) | (z.kilograms < kilograms) {
         return Verdict::Refuses(Refusal::BadAmount);
     }
-    Verdict::Holds(z.kilograms - kilograms)
+    Verdict::Rebooks(z.kilograms - kilograms)
 }
 
 // What a road brings, at a zone.

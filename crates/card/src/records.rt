@@ -332,8 +332,8 @@ impl Record {
         if !more_in_range(into.kilograms, from.kilograms) {
             return self.refused(Refusal::BadAmount);
         }
-        let booked = self.changed(b, Verdict::Holds(into.kilograms + from.kilograms));
-        let moved = booked.after;
+        let summed = self.changed(b, Verdict::Rebooks(into.kilograms + from.kilograms));
+        let moved = summed.after;
         moved.changed(a, Verdict::Removes)
     }
 

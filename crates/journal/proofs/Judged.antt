@@ -16,7 +16,7 @@ use Rattle.card.specs.declared.answers.Refusal.the-variants as refusal
 use Rattle.card.specs.declared.judgements.Asked.{Asked}
 use Rattle.card.specs.declared.judgements.Asked.the-variants.{Failed}
 use Rattle.card.specs.declared.judgements.Verdict.{Verdict}
-use Rattle.card.specs.declared.judgements.Verdict.the-variants.{Refuses, Tells, Writes, Reports, Adds, Removes, Chooses, Holds}
+use Rattle.card.specs.declared.judgements.Verdict.the-variants.{Refuses, Tells, Writes, Reports, Adds, Removes, Chooses, Rebooks}
 use Rattle.card.specs.declared.records.Record.{Record}
 use Rattle.card.specs.declared.records.Found.{Found}
 use Rattle.card.specs.declared.records.Found.the-variants.{At, Nowhere}
@@ -255,7 +255,7 @@ unaltered r n (Reports status) h = absurd (let z : _≡_ {A = ℕ} 0 1 = cc in o
 unaltered r n (Adds address range) h = absurd (let z : _≡_ {A = ℕ} 0 1 = cc in omega arith)
 unaltered r n Removes h = absurd (let z : _≡_ {A = ℕ} 0 1 = cc in omega arith)
 unaltered r n (Chooses origin) h = absurd (let z : _≡_ {A = ℕ} 0 1 = cc in omega arith)
-unaltered r n (Holds kilograms) h = absurd (let z : _≡_ {A = ℕ} 0 1 = cc in omega arith)
+unaltered r n (Rebooks kilograms) h = absurd (let z : _≡_ {A = ℕ} 0 1 = cc in omega arith)
 
 -- a line leaves a sound record sound, and an unsound one as it is
 unsound-kept : (r : Record) (entry : Entry) → sound r ≡ false → comes r entry .after ≡ r

@@ -1,70 +1,103 @@
 -- Bookings over calls of every kind: what is answered, that no kilogram is lost or made, and that they follow the head. Assumes nothing.
-use Prim.Native.Nat.{ℕ, _+_, _-_, _<_}
+use Prim.Native.Nat.{ℕ, _+_, _-_, _≤_, _<_}
 use mathlib.Core.Path.{_≡_, refl, sym, ap, _∙_}
+use mathlib.Core.Logic.{_⊎_, inl, inr}
 use mathlib.Core.Bool.{Bool, true, false, cond, not, _||_}
 use mathlib.Core.List.{List, [], _∷_}
 use native.Mathlib.Omega.{arith}
+use lib.Dec.{ltb}
 use lib.ListN.{length-set}
 use lib.Seq.{getD-set-other}
-use borrow.Author.Tests.{lt-leb, eq-eqb, ne-eqb, not-false}
+use borrow.Author.Tests.{leb-true, le-leb, lt-leb, ltb-true, ltb-false, lt-ltb, le-ltb, eq-eqb, ne-eqb, not-false}
 use Rattle.zone.specs.declared.figures.Group.the-variants.{Hzbg}
 use Rattle.zone.specs.declared.zones.Zone.{Zone}
 use Rattle.zone.specs.Lists.{isZero}
 use Rattle.zone.specs.Zones.{emptyZone, bookingInRange, withKilograms, mended}
-use Rattle.zone.proofs.Tests.{never}
+use Rattle.zone.proofs.Tests.{never, or-true}
 use Rattle.zone.proofs.Sound.{absent-empty}
 use Rattle.zone.proofs.Mended.{mended-kilograms}
 use Rattle.card.specs.declared.records.Record.{Record}
-use Rattle.card.specs.Refusals.{Row, _gives_, first}
+use Rattle.card.specs.Refusals.{_gives_, first}
 use Rattle.card.specs.Records.{emptyRecord, zoneAt, withZone, sound}
 use Rattle.card.specs.Calls.{removeOf, bookOf, shipOf, together, mergeOf, allMended, repairRows, repairOf}
 use Rattle.card.proofs.Storing.{sound-parts, zone-sound}
-use Rattle.card.proofs.Kept.{add-exactly}
-use Rattle.card.proofs.Sets.{book-at-zone, ship-at-zone, book-after, ship-after, ship-held, remove-held}
+use Rattle.card.proofs.Kept.{add-exactly, held-in-range}
+use Rattle.card.proofs.Sets.{add-sets, book-at-zone, ship-at-zone, book-after, ship-after, ship-held, remove-held}
 use Rattle.card.proofs.Merging.{merge-at-zones, merge-after, merge-folds}
 use Rattle.session.specs.Sessions.{Quiet, add, remove, report, apply, chooseSource, setpointInUse, book, ship, merge, repair, Call, inRoom, quiet, answerTo, after, Done, run, Throughout}
 use Rattle.session.specs.Changes.{Merges, merged, Removes, removed, merged-away, Adds, added, Rebooks, booked, shipped, moved-in, Becomes, stays, written, was-reported, was-removed, was-added, was-chosen, was-rebooked, was-mended, NotAdded}
 use Rattle.session.specs.Demands.{refusedSilently, later, PointsAt, books, ships, OtherRoad, by-frame, by-text, Rerouted, over, as-before, other-road}
-use Rattle.session.specs.Bookings.{held, BookingsAreJudged, onAllZones, Amounts, nothing, amounts, counted, doneOf, SinceEmpty, Conserved, NoneOnAbsent, NotRebooked, LeftAlone, ByEitherRoad, FollowsTheHead}
+use Rattle.session.specs.Bookings.{kilogramsOn, RefusedWhere, BookingsAreJudged, onAllZones, Amounts, nothing, amounts, counted, doneOf, SinceEmpty, Conserved, AlwaysInBounds, NotRebooked, LeftAlone, numbersOf, ByEitherRoad, FollowsTheHead}
 use Rattle.session.proofs.Answering.{record-kept, by-done}
 use Rattle.session.proofs.Changes.{becomes}
 use Rattle.session.proofs.Demand1.{stays-removed, stays-gone, removal-sound, call-three}
-use Rattle.session.proofs.Demand3.{stays-sound, same-record, same-end}
+use Rattle.session.proofs.Demand3.{stays-sound, same-record, same-number}
 use Rattle.session.proofs.Unsound.{one-stays}
 use Rattle.session.proofs.Totals.{total-set, total-same, total-map}
 
 -- ---- what each call answers
 
-pub judged : BookingsAreJudged
-unfolding removeOf bookOf shipOf mergeOf
-judged r n p = record {
-  removing = rw (p .sound-record, lt-leb 16 n (p .below), p .present) (unless (isZero (held r n)) 15);
-  booking = λ kg. rw (p .sound-record, lt-leb 16 n (p .below), p .present);
-  shipping = λ kg. rw (p .sound-record, lt-leb 16 n (p .below), p .present);
-  with-itself = rw (p .sound-record, lt-leb 16 n (p .below), p .present, eq-eqb n n refl);
-  merging = λ b q u. rw (p .sound-record, lt-leb 16 n (p .below), p .present, lt-leb 16 b (q .below), q .present, ne-eqb n b u) (unless (bookingInRange (held r b + held r n)) 16);
-}
+-- a test that is left to decide, where it holds exactly under P
+decides : (P : Type 0) (number : ℕ) (r : Record) (call : Quiet) (t : Bool) → answerTo r (quiet call) .said .number ≡ first ((t gives number) ∷ []) → (P → t ≡ true) → ((P → ⊥) → t ≡ false) → RefusedWhere P number r call
+decides P number r call t e f g = ((λ p. e ∙ ap (λ (x : Bool). cond x number 0) (f p)), (λ u. e ∙ ap (λ (x : Bool). cond x number 0) (g u)))
+
+-- "0 .. or": a test for 0 and another one
+either-test : (kg : ℕ) (Q : Type 0) (t : Bool) → (Q → t ≡ true) → ((Q → ⊥) → t ≡ false) → ((kg ≡ 0) ⊎ Q → (isZero kg || t) ≡ true) × ((((kg ≡ 0) ⊎ Q) → ⊥) → (isZero kg || t) ≡ false)
+either-test kg Q t f g = (holds-so, λ u. rw (ne-eqb kg 0 (λ e. u (inl e)), g (λ q. u (inr q))))
   where
-    unless : (t : Bool) (number : ℕ) → first ((not t gives number) ∷ []) ≡ cond t 0 number
-    unless true number = refl
-    unless false number = refl
+    holds-so : (kg ≡ 0) ⊎ Q → (isZero kg || t) ≡ true
+    holds-so (inl e) = rw (eq-eqb kg 0 e)
+    holds-so (inr q) = rw (f q) (or-true (isZero kg))
+
+not-less : (a b : ℕ) → (a < b → ⊥) → b ≤ a
+not-less a b u = by-test (ltb a b) refl
+  where
+    by-test : (t : Bool) → ltb a b ≡ t → b ≤ a
+    by-test true e = absurd (u (ltb-true a b e))
+    by-test false e = ltb-false a b e
+
+-- more than the limit, by the test that is made for it
+over-limit : (kg : ℕ) → (1000000 < kg → not (bookingInRange kg) ≡ true) × ((1000000 < kg → ⊥) → not (bookingInRange kg) ≡ false)
+over-limit kg = ((λ h. rw (lt-leb kg 1000000 h)), (λ u. rw (le-leb kg 1000000 (not-less 1000000 kg u))))
+
+pub bookings-judged : BookingsAreJudged
+unfolding removeOf bookOf shipOf mergeOf
+bookings-judged r n p =
+    let here = kilogramsOn r n in
+    record {
+      removing = decides (1 ≤ here) 15 r (remove n) (not (isZero here)) (rw (p .sound-record, lt-leb 16 n (p .below), p .present))
+          (λ h. rw (ne-eqb here 0 (λ e. omega (arith, e, h)))) (λ u. rw (eq-eqb here 0 (omega (arith, not-less 0 here u))));
+      booking = λ kg.
+          let test = either-test kg (1000000 < here + kg) (not (bookingInRange (here + kg))) (over-limit (here + kg) .0) (over-limit (here + kg) .1) in
+          decides ((kg ≡ 0) ⊎ (1000000 < here + kg)) 16 r (book n kg) (isZero kg || not (bookingInRange (here + kg))) (rw (p .sound-record, lt-leb 16 n (p .below), p .present)) (test .0) (test .1);
+      shipping = λ kg.
+          let test = either-test kg (here < kg) (ltb here kg) (lt-ltb here kg) (λ u. le-ltb here kg (not-less here kg u)) in
+          decides ((kg ≡ 0) ⊎ (here < kg)) 16 r (ship n kg) (isZero kg || ltb here kg) (rw (p .sound-record, lt-leb 16 n (p .below), p .present)) (test .0) (test .1);
+      with-itself = rw (p .sound-record, lt-leb 16 n (p .below), p .present, eq-eqb n n refl);
+      merging = λ b q u.
+          let sum = kilogramsOn r b + here in
+          decides (1000000 < sum) 16 r (merge n b) (not (bookingInRange sum)) (rw (p .sound-record, lt-leb 16 n (p .below), p .present, lt-leb 16 b (q .below), q .present, ne-eqb n b u)) (over-limit sum .0) (over-limit sum .1);
+    }
 
 -- ---- what leaves the kilograms alone
 
+-- an absent zone of a sound record holds nothing
+absent-holds : (r : Record) (n : ℕ) → sound r ≡ true → zoneAt r n .present ≡ false → kilogramsOn r n ≡ 0
+absent-holds r n s p = ap (λ (z : Zone). z .kilograms) (absent-empty (zoneAt r n) p (zone-sound r n s))
+
 -- a zone that is removed, and not by merging, holds nothing; nor does one that is added
-removed-held : (n : ℕ) (r : Record) (call : Call) → NotRebooked n r call → Removes n r call → held r n ≡ 0
+removed-held : (n : ℕ) (r : Record) (call : Call) → NotRebooked n r call → Removes n r call → kilogramsOn r n ≡ 0
 removed-held n r call u (removed d) = remove-held r n d
 removed-held n r call u (merged-away b w) = absurd (u .not-merged b w)
 
-added-held : (n address range : ℕ) (r : Record) (call : Call) → zoneAt r n .present ≡ false → Adds n address range r call → held r n ≡ 0
+added-held : (n address range : ℕ) (r : Record) (call : Call) → zoneAt r n .present ≡ false → Adds n address range r call → kilogramsOn r n ≡ 0
 added-held n address range r call p (added d) =
-    let s = not-false (sound r) (add-exactly r n address range .done .0 d 0) in
-    ap (λ (z : Zone). z .kilograms) (absent-empty (zoneAt r n) p (zone-sound r n s))
+    absent-holds r n (not-false (sound r) (add-exactly r n address range .done .0 d 0)) p
 
-one-left : (n : ℕ) (r : Record) (call : Call) → NotRebooked n r call → held (after r call) n ≡ held r n
+one-left : (n : ℕ) (r : Record) (call : Call) → NotRebooked n r call → kilogramsOn (after r call) n ≡ kilogramsOn r n
 one-left n r call u = by-change (becomes r call n)
   where
-    by-change : {z : Zone} → Becomes r n call z → z .kilograms ≡ held r n
+    by-change : {z : Zone} → Becomes r n call z → z .kilograms ≡ kilogramsOn r n
     by-change (stays s) = ap (λ (z : Zone). z .kilograms) s
     by-change (written f w q s) = s .kilograms
     by-change (was-reported state actual w q s) = s .kilograms
@@ -78,8 +111,22 @@ pub left-alone : LeftAlone
 left-alone r n [] u = refl
 left-alone r n (call ∷ calls) u = left-alone (after r call) n calls (u .1) ∙ one-left n r call (u .0)
 
-pub none-on-absent : NoneOnAbsent
-none-on-absent r calls n s p = ap (λ (z : Zone). z .kilograms) (absent-empty (zoneAt (run r calls) n) p (zone-sound (run r calls) n (stays-sound r calls s)))
+-- and any zone of it holds no more than the limit
+holds-at-most : (r : Record) (n : ℕ) → sound r ≡ true → kilogramsOn r n ≤ 1000000
+holds-at-most r n s = by-presence (zoneAt r n .present) refl
+  where
+    by-presence : (t : Bool) → zoneAt r n .present ≡ t → kilogramsOn r n ≤ 1000000
+    by-presence true p = leb-true (kilogramsOn r n) 1000000 (held-in-range r n s p)
+    by-presence false p = omega (arith, absent-holds r n s p)
+
+pub in-bounds : AlwaysInBounds
+in-bounds r calls n s =
+    let t = stays-sound r calls s in
+    record {
+      limit = holds-at-most (run r calls) n t;
+      absent = absent-holds (run r calls) n t;
+      new = λ address range d. ap (λ (z : Zone). z .kilograms) (add-sets (run r calls) n address range d);
+    }
 
 -- ---- no kilogram is lost or made
 
@@ -143,7 +190,7 @@ level-balanced : (r : Record) (call : Call) → moves call ≡ false → amounts
 level-balanced r call e n = rw (n, level r call e)
 
 -- a zone's kilograms set anew
-set-level : (r : Record) (n kg : ℕ) → sound r ≡ true → n < 16 → onAllZones (withZone r n (withKilograms (zoneAt r n) kg)) + held r n ≡ onAllZones r + kg
+set-level : (r : Record) (n kg : ℕ) → sound r ≡ true → n < 16 → onAllZones (withZone r n (withKilograms (zoneAt r n) kg)) + kilogramsOn r n ≡ onAllZones r + kg
 set-level r n kg s l =
     let h = sound-parts r s .sixteen in
     total-set (λ (z : Zone). z .kilograms) emptyZone (r .zones) n (withKilograms (zoneAt r n) kg) (omega arith)
@@ -153,7 +200,7 @@ book-balanced r n kg =
     by-done r (quiet (book n kg))
     (λ d.
     let k = book-at-zone r n kg d in
-    let e = set-level r n (held r n + kg) (k .sound-record) (k .below) in
+    let e = set-level r n (kilogramsOn r n + kg) (k .sound-record) (k .below) in
     rw (book-after r n kg d, d) (omega (arith, e)))
     (refused-balanced r (quiet (book n kg)))
 
@@ -162,7 +209,7 @@ ship-balanced r n kg =
     by-done r (quiet (ship n kg))
     (λ d.
     let k = ship-at-zone r n kg d in
-    let e = set-level r n (held r n - kg) (k .sound-record) (k .below) in
+    let e = set-level r n (kilogramsOn r n - kg) (k .sound-record) (k .below) in
     rw (ship-after r n kg d, d) (omega (arith, e, ship-held r n kg d)))
     (refused-balanced r (quiet (ship n kg)))
 
@@ -225,8 +272,15 @@ same-done part e {r} (other-road {xs = xs} {ys = ys} x y o rest) =
     let tail = same-done part e rest ∙ ap (λ (s : Record). doneOf part s ys) (same-record r x y o) in
     λ i. road-counts part e r x y o i + tail i
 
+same-numbers : {r : Record} {xs ys : List Call} → Rerouted after OtherRoad r xs ys → numbersOf r xs ≡ numbersOf r ys
+same-numbers over = refl
+same-numbers {r} (as-before x rest) = ap (λ (l : List ℕ). answerTo r x .said .number ∷ l) (same-numbers rest)
+same-numbers {r} (other-road {xs = xs} {ys = ys} x y o rest) =
+    let tail = same-numbers rest ∙ ap (λ (s : Record). numbersOf s ys) (same-record r x y o) in
+    λ i. same-number r x y o i ∷ tail i
+
 pub by-either-road : ByEitherRoad
-by-either-road r xs ys w = record { bookings = same-done (λ a. a .books) refl w; shipments = same-done (λ a. a .ships) refl w; left = same-end r xs ys w }
+by-either-road r xs ys w = record { numbers = same-numbers w; bookings = same-done (λ a. a .books) refl w; shipments = same-done (λ a. a .ships) refl w }
 
 -- ---- the buyer's case
 

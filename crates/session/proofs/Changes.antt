@@ -1,7 +1,6 @@
 -- What a call does to a zone: nothing, or what a done write, report, removal, addition, choice of a source, booking, shipment, merging or repair sets. Assumes nothing.
 use Prim.Native.Nat.{ℕ, _+_, _-_}
 use mathlib.Core.Path.{_≡_, refl, sym, ap, _∙_, subst}
-use mathlib.Core.Logic.{_⊎_, inl, inr}
 use mathlib.Core.Bool.{Bool, true, false, cond}
 use mathlib.Core.List.{List}
 use native.Mathlib.Omega.{arith}
@@ -35,7 +34,7 @@ use Rattle.frame.specs.declared.reading.Framed.the-variants.{Request}
 use Rattle.frame.specs.Frame.{addressIn, frameRead}
 use Rattle.roads.specs.Calls.{textResult, answerText, frameResult, answerFrame}
 use Rattle.session.specs.Sessions.{text, frame, composeLine, composeFrame, add, remove, report, apply, chooseSource, setpointInUse, book, ship, merge, repair, Call, inRoom, quiet, after, Done}
-use Rattle.session.specs.Changes.{Writes, by-apply, by-line, by-frame, Reports, reported, Merges, merged, Removes, removed, merged-away, Adds, added, Chooses, chosen, Rebooks, booked, shipped, moved-in, Repairs, repaired, WhatIsDoneIsSet, Becomes, stays, written, was-reported, was-removed, was-added, was-chosen, was-rebooked, was-mended, EveryZoneBecomes}
+use Rattle.session.specs.Changes.{Writes, by-apply, by-line, by-frame, Reports, reported, merged, Removes, removed, merged-away, Adds, added, Chooses, chosen, Rebooks, booked, shipped, moved-in, Repairs, repaired, WhatIsDoneIsSet, Becomes, stays, written, was-reported, was-removed, was-added, was-chosen, was-rebooked, was-mended, EveryZoneBecomes}
 use Rattle.session.proofs.Answering.{record-kept, by-done}
 use Rattle.session.proofs.Done.{Applied, line-is-done, frame-is-done}
 

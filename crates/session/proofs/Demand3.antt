@@ -185,5 +185,9 @@ pub same-record : (r : Record) (x y : Call) → OtherRoad r x y → after r x �
 same-record r x y (by-frame n c room room′ p k h h′) = same-by-both r n c room room′ p k h h′ .same-record
 same-record r x y (by-text n c room room′ p k h h′) = sym (same-by-both r n c room′ room p k h′ h .same-record)
 
+pub same-number : (r : Record) (x y : Call) → OtherRoad r x y → answerTo r x .said .number ≡ answerTo r y .said .number
+same-number r x y (by-frame n c room room′ p k h h′) = same-by-both r n c room room′ p k h h′ .same-number
+same-number r x y (by-text n c room room′ p k h h′) = sym (same-by-both r n c room′ room p k h′ h .same-number)
+
 pub same-end : SameEnd
 same-end r xs ys w = ends-alike after OtherRoad same-record w

@@ -1,4 +1,4 @@
--- The card that stores the first command of a session and only acknowledges later ones is shut out: every write that is answered as done is stored, whatever came before, and stays until its group is written again or its zone is removed.
+-- The card that stores the first command of a session and only acknowledges later ones is shut out: every write that is answered as done is stored, whatever came before, and stays until its group is written again, its zone is removed (by merging too) or its window mended.
 -- Cites write-sets of the card, the law that the edit zone/must-fail/stores_first_only breaks. Assumes nothing.
 use Prim.Native.Nat.{ℕ}
 use mathlib.Core.Path.{_≡_, refl, sym, ap, _∙_}

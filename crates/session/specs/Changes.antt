@@ -44,7 +44,6 @@ pub data Removes (n : ℕ) (r : Record) : Call → Type 0 where
   merged-away : {call : Call} (b : ℕ) → Merges n b r call → Removes n r call
 
 -- a done addition of zone n with that address and temperature range
-
 pub data Adds (n address range : ℕ) (r : Record) : Call → Type 0 where
   added : Done r (quiet (add n address range)) → Adds n address range r (quiet (add n address range))
 
@@ -52,7 +51,7 @@ pub data Adds (n address range : ℕ) (r : Record) : Call → Type 0 where
 pub data Chooses (n : ℕ) (source : Source) (millivolts : ℕ) (r : Record) : Call → Type 0 where
   chosen : Done r (quiet (chooseSource n source millivolts)) → Chooses n source millivolts r (quiet (chooseSource n source millivolts))
 
--- so many kilograms come to stand on zone n (document 02, Req 07): by a done booking, which "adds", by a done shipment, which "subtracts", said as a sum, or as another zone's whole booking is moved to it
+-- zone n comes to hold so many kilograms in all (document 02, Req 07): by a done booking ("Booking adds"), by a done shipment ("shipping subtracts": what is left and what was shipped are what was held), or by a done merging of another zone into it
 pub data Rebooks (n kilograms : ℕ) (r : Record) : Call → Type 0 where
   booked : (amount : ℕ) → Done r (quiet (book n amount)) → kilograms ≡ zoneAt r n .kilograms + amount → Rebooks n kilograms r (quiet (book n amount))
   shipped : (amount : ℕ) → Done r (quiet (ship n amount)) → kilograms + amount ≡ zoneAt r n .kilograms → Rebooks n kilograms r (quiet (ship n amount))

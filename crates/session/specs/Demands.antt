@@ -39,7 +39,7 @@ use Rattle.session.specs.Changes.{Removes, NotAdded, NotGiven, NotRewrit
 
 -- ---- 1. "Any bytes, any zone number and any record may be handed to the card."
 
--- the order of a call's refusals, as document 01 prints it; of apply, as it follows from that of a line; of the calls of document 02, as its requests have it, of the setpoint in use its beginning, since no figure is handed in
+-- the order of a call's refusals, as document 01 prints it, of removing with 15 behind it (Req 07); of apply, as it follows from that of a line; of the calls of document 02, as its requests have it, of the setpoint in use its beginning, since no figure is handed in
 abbrev pub spokenOrder : Speaking → List ℕ
 spokenOrder (text zone line) = textOrder
 spokenOrder (frame bytes) = frameOrder
@@ -105,7 +105,7 @@ fixed (inRoom call room) number = fixedIn call number
 fixed (quiet call) number = []
 
 pub record EndsWell (r : Record) (call : Call) : Type 0 where
-  -- "Every call ends with one of the numbered answers of document 01."
+  -- "Every call ends with one of the numbered answers of document 01.", and of document 02, which numbers more
   pub numbered : among (answerTo r call .said .number) (0 ∷ order call) ≡ true
   -- "Given exactly when" and "Where several apply, the first in the call's order is given" (document 01): each number exactly where its test holds and no earlier one does, 0 exactly where none holds, and the numbers stand in the printed order
   pub exactly : ExactlyWhen (refusals r call) (answerTo r call .said .number)
@@ -142,7 +142,7 @@ StaysEmpty = (r : Record) (n : ℕ) (calls : List Call) → zoneAt r n ≡ empty
 abbrev pub later : Record → Call → List Call → Record
 later r call calls = run (after r call) calls
 
--- by removal, and by merging (document 02, Req 07)
+-- a zone that was removed, by removal or by merging (document 02, Req 07), stays the empty zone
 abbrev pub StaysRemoved : Type 0
 StaysRemoved = (r : Record) (n : ℕ) (call : Call) (calls : List Call) → Removes n r call → Throughout (NotAdded n) (after r call) calls → zoneAt (later r call calls) n ≡ emptyZone
 
@@ -165,7 +165,7 @@ MeetsSilence = (r : Record) (bytes room : List ℕ) → ((n : ℕ) → zoneAt r 
 abbrev pub refusedSilently : ℕ → Record → List ℕ → Answered
 refusedSilently number r room = record { said = said number [] [] room; after = r }
 
--- a call without a room that is made at zone n, other than adding it
+-- a call without a room that names zone n, other than adding it
 pub data PointsAt (n : ℕ) : Quiet → Type 0 where
   applies : (command : Command) → PointsAt n (apply n command)
   reports : (state actual : ℕ) → PointsAt n (report n state actual)

@@ -46,7 +46,7 @@ pub record SetsOrigin (before : Zone) (origin : Origin) (after : Zone) : Type 0 
   pub kilograms : after .kilograms ≡ before .kilograms
   pub groups : (group : Group) → figuresOf after group ≡ figuresOf before group
 
--- "Booking adds, shipping subtracts" (document 02, Req 07), and merging moves: the kilograms on the zone, and nothing else of it
+-- what a booking, a shipment and a merging into the zone set (document 02, Req 07): the kilograms on it, and nothing else of it
 pub record SetsKilograms (before : Zone) (kilograms : ℕ) (after : Zone) : Type 0 where
   pub head : SameHead before after
   pub status : after .status ≡ before .status

@@ -9,7 +9,6 @@ mod sources;
 mod status;
 mod zones;
 
-pub use bookings::booking_in_range;
 pub use bookings::more_in_range;
 pub use figures::Command;
 pub use figures::DeadlineFigures;

@@ -1,5 +1,4 @@
 -- The refusal is the definition's row; what passes it is done.
-use borrow.Author.Needs.{needs}
 use Rattle.card.proofs.judgements.removed.Statement.{statement}
 use Rattle.card.proofs.judgements.removed.Tie as tie
 

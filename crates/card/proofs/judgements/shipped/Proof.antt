@@ -3,7 +3,6 @@ use lib.Dec.{ltb}
 use borrow.Author.Tests.{ltb-false}
 use Rattle.zone.specs.Lists.{isZero}
 use Rattle.zone.proofs.Tests.{neither}
-use borrow.Author.Needs.{needs}
 use Rattle.card.proofs.judgements.shipped.Statement.{statement}
 use Rattle.card.proofs.judgements.shipped.Tie as tie
 

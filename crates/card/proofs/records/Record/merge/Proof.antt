@@ -1,4 +1,4 @@
--- The refusals are the definition's rows, in its order. What passes them is done by two stores: the sum on zone b, and then nothing on zone a.
+-- The refusals are the definition's rows, in its order. What passes them is done by two stores: the sum on zone b, and then the empty zone at a.
 use Prim.Native.Nat.{ℕ, _+_, _<_}
 use mathlib.Core.Path.{_≡_, sym, ap, _∙_}
 use mathlib.Core.Bool.{Bool, false, _||_}
