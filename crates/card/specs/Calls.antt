@@ -1,4 +1,4 @@
--- What each call comes to, for every record, sound or not. Its refusals stand in document 01's order; those of removing, of choosing a source, of the setpoint in use, of bookings and of the repair in that of document 02.
+-- What each call comes to, for every record, sound or not. Its refusals stand in document 01's order; those of removing, of choosing a source, of the setpoint in use, of booking, shipping and merging and of the repair in that of document 02.
 use Prim.Native.Nat.{ℕ, suc, _+_, _-_}
 use mathlib.Core.Bool.{Bool, cond, not, _&&_, _||_}
 use mathlib.Core.List.{List, [], _∷_, _++_, map}
@@ -133,7 +133,7 @@ bookAt z kilograms = record {
 unfoldable pub bookOf : Record → ℕ → ℕ → Result Record
 bookOf r n kilograms = atZone r n (bookAt (zoneAt r n) kilograms)
 
--- "shipping subtracts": 2, 3, in zoneRows, and "16 for .. shipping 0, more than is held when shipping"; what is left of a sound zone's kilograms is never above the limit
+-- "shipping subtracts": 2, 3, in zoneRows, and "16 for .. shipping 0, more than is held when shipping"; what is left of a sound zone's kilograms is never above the limit, and what would be below 0 has been refused
 abbrev pub shipAt : Zone → ℕ → Judgement
 shipAt z kilograms = record {
   rows = ((isZero kilograms || ltb (z .kilograms) kilograms) gives 16) ∷ [];

@@ -25,7 +25,7 @@ EmptyIsSound = sound emptyRecord ≡ true
 pub record KeepsBesides (r : Record) (touched : ℕ → Type 0) (o : Result Record) : Type 0 where
   -- "Every refusal hands back the record it was given", and tells nothing
   pub refusal : (o .number ≡ 0 → ⊥) → (o .after ≡ r) × (o .values ≡ [])
-  -- "Adding and removing touch no other zone"; every other call at a zone sets what it sets there, and merging in its two
+  -- "Adding and removing touch no other zone"; every other call at a zone touches that zone alone, and merging its two
   pub others : (m : ℕ) → (touched m → ⊥) → zoneAt (o .after) m ≡ zoneAt r m
   -- a sound record stays sound
   pub stays : sound r ≡ true → sound (o .after) ≡ true
@@ -79,7 +79,7 @@ chooseSourceOrder = 2 ∷ 3 ∷ 9 ∷ []
 abbrev pub setpointInUseOrder : List ℕ
 setpointInUseOrder = 2 ∷ 3 ∷ []
 
--- document 02, Req 07: "order 2, 3 (first zone, then second), 17, 16 or 15", of each call those that it may give; why a merging has one 3 for both zones, mergeRows says
+-- document 02, Req 07: "order 2, 3 (first zone, then second), 17, 16 or 15", of each call the numbers that it may give; a merging has one 3 for both zones: see mergeRows, in Calls.antt
 abbrev pub bookOrder : List ℕ
 bookOrder = 2 ∷ 3 ∷ 16 ∷ []
 

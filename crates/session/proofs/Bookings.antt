@@ -10,6 +10,7 @@ use lib.ListN.{length-set}
 use lib.Seq.{getD-set-other}
 use borrow.Author.Tests.{leb-true, le-leb, lt-leb, ltb-true, ltb-false, lt-ltb, le-ltb, eq-eqb, ne-eqb, not-false}
 use Rattle.zone.specs.declared.figures.Group.the-variants.{Hzbg}
+use Rattle.zone.specs.declared.figures.Figures.{Figures}
 use Rattle.zone.specs.declared.zones.Zone.{Zone}
 use Rattle.zone.specs.Lists.{isZero}
 use Rattle.zone.specs.Zones.{emptyZone, bookingInRange, withKilograms, mended}
@@ -24,22 +25,30 @@ use Rattle.card.proofs.Storing.{sound-parts, zone-sound}
 use Rattle.card.proofs.Kept.{add-exactly, held-in-range}
 use Rattle.card.proofs.Sets.{add-sets, book-at-zone, ship-at-zone, book-after, ship-after, ship-held, remove-held}
 use Rattle.card.proofs.Merging.{merge-at-zones, merge-after, merge-folds}
+use Rattle.roads.specs.Calls.{said}
 use Rattle.session.specs.Sessions.{Quiet, add, remove, report, apply, chooseSource, setpointInUse, book, ship, merge, repair, Call, inRoom, quiet, answerTo, after, Done, run, Throughout}
 use Rattle.session.specs.Changes.{Merges, merged, Removes, removed, merged-away, Adds, added, Rebooks, booked, shipped, moved-in, Becomes, stays, written, was-reported, was-removed, was-added, was-chosen, was-rebooked, was-mended, NotAdded}
 use Rattle.session.specs.Demands.{refusedSilently, later, PointsAt, books, ships, OtherRoad, by-frame, by-text, Rerouted, over, as-before, other-road}
-use Rattle.session.specs.Bookings.{kilogramsOn, RefusedWhere, BookingsAreJudged, onAllZones, Amounts, nothing, amounts, counted, doneOf, SinceEmpty, Conserved, AlwaysInBounds, NotRebooked, LeftAlone, numbersOf, ByEitherRoad, FollowsTheHead}
+use Rattle.session.specs.Bookings.{kilogramsOn, RefusedWhere, BookingsAreJudged, AbsentGivesThree, onAllZones, Amounts, nothing, amounts, counted, doneOf, SinceEmpty, Conserved, AlwaysInBounds, NotRebooked, LeftAlone, answersOf, ByEitherRoad, FollowsTheHead}
 use Rattle.session.proofs.Answering.{record-kept, by-done}
 use Rattle.session.proofs.Changes.{becomes}
 use Rattle.session.proofs.Demand1.{stays-removed, stays-gone, removal-sound, call-three}
-use Rattle.session.proofs.Demand3.{stays-sound, same-record, same-number}
+use Rattle.session.proofs.Demand3.{stays-sound, same-answer}
 use Rattle.session.proofs.Unsound.{one-stays}
 use Rattle.session.proofs.Totals.{total-set, total-same, total-map}
 
 -- ---- what each call answers
 
+untold : (t : Bool) → _≡_ {A = List Figures} (cond t [] []) []
+untold true = refl
+untold false = refl
+
 -- a test that is left to decide, where it holds exactly under P
-decides : (P : Type 0) (number : ℕ) (r : Record) (call : Quiet) (t : Bool) → answerTo r (quiet call) .said .number ≡ first ((t gives number) ∷ []) → (P → t ≡ true) → ((P → ⊥) → t ≡ false) → RefusedWhere P number r call
-decides P number r call t e f g = ((λ p. e ∙ ap (λ (x : Bool). cond x number 0) (f p)), (λ u. e ∙ ap (λ (x : Bool). cond x number 0) (g u)))
+decides : (P : Type 0) (number : ℕ) (r : Record) (call : Quiet) (t : Bool) → answerTo r (quiet call) .said .values ≡ [] → answerTo r (quiet call) .said .number ≡ first ((t gives number) ∷ []) → (P → t ≡ true) → ((P → ⊥) → t ≡ false) → RefusedWhere P number r call
+decides P number r call t v e f g = ((λ p. answered (f p)), (λ u. answered (g u)))
+  where
+    answered : {b : Bool} → t ≡ b → answerTo r (quiet call) .said ≡ said (cond b number 0) [] [] []
+    answered q = let n = e ∙ ap (λ (x : Bool). cond x number 0) q in λ i. said (n i) (v i) [] []
 
 -- "0 .. or": a test for 0 and another one
 either-test : (kg : ℕ) (Q : Type 0) (t : Bool) → (Q → t ≡ true) → ((Q → ⊥) → t ≡ false) → ((kg ≡ 0) ⊎ Q → (isZero kg || t) ≡ true) × ((((kg ≡ 0) ⊎ Q) → ⊥) → (isZero kg || t) ≡ false)
@@ -65,19 +74,22 @@ unfolding removeOf bookOf shipOf mergeOf
 bookings-judged r n p =
     let here = kilogramsOn r n in
     record {
-      removing = decides (1 ≤ here) 15 r (remove n) (not (isZero here)) (rw (p .sound-record, lt-leb 16 n (p .below), p .present))
+      removing = decides (1 ≤ here) 15 r (remove n) (not (isZero here)) (untold (isZero (removeOf r n .number))) (rw (p .sound-record, lt-leb 16 n (p .below), p .present))
           (λ h. rw (ne-eqb here 0 (λ e. omega (arith, e, h)))) (λ u. rw (eq-eqb here 0 (omega (arith, not-less 0 here u))));
       booking = λ kg.
           let test = either-test kg (1000000 < here + kg) (not (bookingInRange (here + kg))) (over-limit (here + kg) .0) (over-limit (here + kg) .1) in
-          decides ((kg ≡ 0) ⊎ (1000000 < here + kg)) 16 r (book n kg) (isZero kg || not (bookingInRange (here + kg))) (rw (p .sound-record, lt-leb 16 n (p .below), p .present)) (test .0) (test .1);
+          decides ((kg ≡ 0) ⊎ (1000000 < here + kg)) 16 r (book n kg) (isZero kg || not (bookingInRange (here + kg))) (untold (isZero (bookOf r n kg .number))) (rw (p .sound-record, lt-leb 16 n (p .below), p .present)) (test .0) (test .1);
       shipping = λ kg.
           let test = either-test kg (here < kg) (ltb here kg) (lt-ltb here kg) (λ u. le-ltb here kg (not-less here kg u)) in
-          decides ((kg ≡ 0) ⊎ (here < kg)) 16 r (ship n kg) (isZero kg || ltb here kg) (rw (p .sound-record, lt-leb 16 n (p .below), p .present)) (test .0) (test .1);
+          decides ((kg ≡ 0) ⊎ (here < kg)) 16 r (ship n kg) (isZero kg || ltb here kg) (untold (isZero (shipOf r n kg .number))) (rw (p .sound-record, lt-leb 16 n (p .below), p .present)) (test .0) (test .1);
       with-itself = rw (p .sound-record, lt-leb 16 n (p .below), p .present, eq-eqb n n refl);
       merging = λ b q u.
           let sum = kilogramsOn r b + here in
-          decides (1000000 < sum) 16 r (merge n b) (not (bookingInRange sum)) (rw (p .sound-record, lt-leb 16 n (p .below), p .present, lt-leb 16 b (q .below), q .present, ne-eqb n b u)) (over-limit sum .0) (over-limit sum .1);
+          decides (1000000 < sum) 16 r (merge n b) (not (bookingInRange sum)) (untold (isZero (mergeOf r n b .number))) (rw (p .sound-record, lt-leb 16 n (p .below), p .present, lt-leb 16 b (q .below), q .present, ne-eqb n b u)) (over-limit sum .0) (over-limit sum .1);
     }
+
+pub absent-gives-three : AbsentGivesThree
+absent-gives-three r n call s p w = call-three r n call s (absent-empty (zoneAt r n) p (zone-sound r n s)) w
 
 -- ---- what leaves the kilograms alone
 
@@ -269,18 +281,19 @@ same-done : (part : Amounts → ℕ) → part nothing ≡ 0 → {r : Record} {xs
 same-done part e over = refl
 same-done part e {r} (as-before x rest) = ap (λ (n : ℕ). counted r x (part (amounts x)) + n) (same-done part e rest)
 same-done part e {r} (other-road {xs = xs} {ys = ys} x y o rest) =
-    let tail = same-done part e rest ∙ ap (λ (s : Record). doneOf part s ys) (same-record r x y o) in
+    let tail = same-done part e rest ∙ ap (λ (s : Record). doneOf part s ys) (same-answer r x y o .same-record) in
     λ i. road-counts part e r x y o i + tail i
 
-same-numbers : {r : Record} {xs ys : List Call} → Rerouted after OtherRoad r xs ys → numbersOf r xs ≡ numbersOf r ys
-same-numbers over = refl
-same-numbers {r} (as-before x rest) = ap (λ (l : List ℕ). answerTo r x .said .number ∷ l) (same-numbers rest)
-same-numbers {r} (other-road {xs = xs} {ys = ys} x y o rest) =
-    let tail = same-numbers rest ∙ ap (λ (s : Record). numbersOf s ys) (same-record r x y o) in
-    λ i. same-number r x y o i ∷ tail i
+same-answers : {r : Record} {xs ys : List Call} → Rerouted after OtherRoad r xs ys → answersOf r xs ≡ answersOf r ys
+same-answers over = refl
+same-answers {r} (as-before x rest) = ap (λ (l : List (ℕ × List Figures)). (answerTo r x .said .number, answerTo r x .said .values) ∷ l) (same-answers rest)
+same-answers {r} (other-road {xs = xs} {ys = ys} x y o rest) =
+    let same = same-answer r x y o in
+    let tail = same-answers rest ∙ ap (λ (s : Record). answersOf s ys) (same .same-record) in
+    λ i. (same .same-number i, same .same-figures i) ∷ tail i
 
 pub by-either-road : ByEitherRoad
-by-either-road r xs ys w = record { numbers = same-numbers w; bookings = same-done (λ a. a .books) refl w; shipments = same-done (λ a. a .ships) refl w }
+by-either-road r xs ys w = record { answers = same-answers w; bookings = same-done (λ a. a .books) refl w; shipments = same-done (λ a. a .ships) refl w }
 
 -- ---- the buyer's case
 
@@ -299,6 +312,7 @@ follows-the-head r a b d =
     record {
       folded = folds;
       heating-limit = folds .moved .groups Hzbg;
+      stand = λ calls u. left-alone (after r (quiet (merge a b))) b calls u ∙ folds .moved .held;
       empty = λ calls u. stays-removed r a (quiet (merge a b)) calls w u;
       gone = λ calls room h. stays-gone r a (quiet (merge a b)) calls room w h;
       no-booking = λ calls kg u. merged-three r a b calls (book a kg) d (books kg) u;

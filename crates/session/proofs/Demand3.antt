@@ -29,11 +29,11 @@ use Rattle.line.specs.Line.{textRoad, lineOf}
 use Rattle.line.proofs.Round.{line-only}
 use Rattle.frame.specs.Frame.{frameRoad, frameOf, addressIn}
 use Rattle.frame.proofs.Round.{frame-only}
-use Rattle.roads.specs.Calls.{textResult, answerText, frameResult, answerFrame}
+use Rattle.roads.specs.Calls.{Answered, textResult, answerText, frameResult, answerFrame}
 use Rattle.roads.proofs.Applied.{text-applies, frame-applies}
 use Rattle.roads.proofs.Replies.{in-range-both}
 use Rattle.session.specs.Sessions.{text, frame, composeLine, composeFrame, add, remove, report, apply, chooseSource, setpointInUse, book, ship, merge, repair, Call, inRoom, quiet, answerTo, after, Done, runBy}
-use Rattle.session.specs.Demands.{bothCarry, bothBound, BothBounds, BothCarried, Present, SameByBoth, StaysSound, OnlyLines, OnlyFrames, OtherRoad, by-frame, by-text, Rerouted, over, as-before, other-road, SameEnd}
+use Rattle.session.specs.Demands.{bothCarry, bothBound, BothBounds, BothCarried, Present, Same, SameByBoth, StaysSound, OnlyLines, OnlyFrames, OtherRoad, by-frame, by-text, Rerouted, over, as-before, other-road, SameEnd}
 use Rattle.session.proofs.Answering.{record-kept, by-done}
 use Rattle.session.proofs.Done.{Applied, line-is-done, frame-is-done}
 
@@ -180,14 +180,13 @@ module _ {C : Type 0} (step : Record → C → Record) (Other : Record → C →
   ends-alike (as-before x rest) = ends-alike rest
   ends-alike {r} (other-road {xs = xs} {ys = ys} x y o rest) = ends-alike rest ∙ ap (λ (s : Record). runBy step s ys) (same r x y o)
 
--- the one lemma for lines and frames
-pub same-record : (r : Record) (x y : Call) → OtherRoad r x y → after r x ≡ after r y
-same-record r x y (by-frame n c room room′ p k h h′) = same-by-both r n c room room′ p k h h′ .same-record
-same-record r x y (by-text n c room room′ p k h h′) = sym (same-by-both r n c room′ room p k h′ h .same-record)
+turned : {a b : Answered} → Same a b → Same b a
+turned s = record { same-record = sym (s .same-record); same-number = sym (s .same-number); same-figures = sym (s .same-figures) }
 
-pub same-number : (r : Record) (x y : Call) → OtherRoad r x y → answerTo r x .said .number ≡ answerTo r y .said .number
-same-number r x y (by-frame n c room room′ p k h h′) = same-by-both r n c room room′ p k h h′ .same-number
-same-number r x y (by-text n c room room′ p k h h′) = sym (same-by-both r n c room′ room p k h′ h .same-number)
+-- the one lemma for lines and frames
+pub same-answer : (r : Record) (x y : Call) → OtherRoad r x y → Same (answerTo r x) (answerTo r y)
+same-answer r x y (by-frame n c room room′ p k h h′) = same-by-both r n c room room′ p k h h′
+same-answer r x y (by-text n c room room′ p k h h′) = turned (same-by-both r n c room′ room p k h′ h)
 
 pub same-end : SameEnd
-same-end r xs ys w = ends-alike after OtherRoad same-record w
+same-end r xs ys w = ends-alike after OtherRoad (λ r x y o. same-answer r x y o .same-record) w

@@ -1,4 +1,4 @@
--- "Bookings that follow the head" (document 02, Req 07), over calls of every kind: what its four calls answer, that no kilogram is lost or made, and what the buyer asked for once a head is merged into another. Above each statement stands where it is proved.
+-- "Bookings that follow the head" (document 02, Req 07), over calls of every kind: what removing, booking, shipping and merging answer, that no kilogram is lost or made, and what the buyer asked for once a head is merged into another. Above each statement stands where it is proved.
 -- "P → ⊥" says that P does not hold, "P ⊎ Q" that one of the two does, "P × Q" that both do; "cond t x y" is x where t holds, and else y.
 use Prim.Native.Nat.{ℕ, _+_, _≤_, _<_}
 use mathlib.Core.Path.{_≡_}
@@ -7,24 +7,26 @@ use mathlib.Core.Bool.{true, false, cond}
 use mathlib.Core.List.{List, [], _∷_}
 use lib.ListN.{length}
 use Rattle.zone.specs.declared.figures.Group.the-variants.{Hzbg}
+use Rattle.zone.specs.declared.figures.Figures.{Figures}
 use Rattle.zone.specs.Lists.{isZero, total}
 use Rattle.zone.specs.Zones.{emptyZone, figuresOf}
 use Rattle.card.specs.declared.records.Record.{Record}
 use Rattle.card.specs.Records.{emptyRecord, zoneAt, sound}
 use Rattle.card.specs.Rules.{Folds}
+use Rattle.roads.specs.Calls.{said}
 use Rattle.session.specs.Sessions.{Quiet, add, remove, report, apply, chooseSource, setpointInUse, book, ship, merge, repair, Call, inRoom, quiet, answerTo, after, Done, run, Throughout}
 use Rattle.session.specs.Changes.{Merges, Rebooks, NotAdded}
-use Rattle.session.specs.Demands.{refusedSilently, later, Present, OtherRoad, Rerouted, Gone}
+use Rattle.session.specs.Demands.{refusedSilently, later, PointsAt, Present, OtherRoad, Rerouted, Gone}
 
 -- the kilograms on zone n
 abbrev pub kilogramsOn : Record → ℕ → ℕ
 kilogramsOn r n = zoneAt r n .kilograms
 
--- ---- "Refusals: 15 .. 16 .. 17": at zones present in a sound record each of the four calls is refused where its sentence says so, and otherwise done, whatever the states, sources and addresses; so a card that refuses every booking is ruled out
+-- ---- "Refusals: 15 .. 16 .. 17": at zones present in a sound record removing, booking, shipping and merging are each refused where its sentence says so, and otherwise done, whatever the states, sources and addresses; so a card that refuses every booking is ruled out
 
--- a call gets that number where P holds, and else 0, done
+-- a call gets that number where P holds, and else 0, done; in both cases it tells no figures and replies nothing
 abbrev pub RefusedWhere : Type 0 → ℕ → Record → Quiet → Type 0
-RefusedWhere P number r call = (P → answerTo r (quiet call) .said .number ≡ number) × ((P → ⊥) → answerTo r (quiet call) .said .number ≡ 0)
+RefusedWhere P number r call = (P → answerTo r (quiet call) .said ≡ said number [] [] []) × ((P → ⊥) → answerTo r (quiet call) .said ≡ said 0 [] [] [])
 
 pub record BookingsJudged (r : Record) (n : ℕ) : Type 0 where
   -- "15 for removing a zone with kilograms on it"
@@ -33,13 +35,17 @@ pub record BookingsJudged (r : Record) (n : ℕ) : Type 0 where
   pub booking : (kilograms : ℕ) → RefusedWhere ((kilograms ≡ 0) ⊎ (1000000 < kilogramsOn r n + kilograms)) 16 r (book n kilograms)
   pub shipping : (kilograms : ℕ) → RefusedWhere ((kilograms ≡ 0) ⊎ (kilogramsOn r n < kilograms)) 16 r (ship n kilograms)
   -- "17 for merging a zone with itself"
-  pub with-itself : answerTo r (quiet (merge n n)) .said .number ≡ 17
+  pub with-itself : answerTo r (quiet (merge n n)) .said ≡ said 17 [] [] []
   -- so 0 kg may be moved, and 15 is never given
   pub merging : (b : ℕ) → Present r b → (n ≡ b → ⊥) → RefusedWhere (1000000 < kilogramsOn r b + kilogramsOn r n) 16 r (merge n b)
 
 -- `bookings-judged`, in proofs/Bookings.antt
 abbrev pub BookingsAreJudged : Type 0
 BookingsAreJudged = (r : Record) (n : ℕ) → Present r n → BookingsJudged r n
+
+-- before these comes 3: in a sound record each call without a room that names an absent zone, or one above 15, adding it apart; a merging for either of its zones, and so before 17. `absent-gives-three`, in proofs/Bookings.antt
+abbrev pub AbsentGivesThree : Type 0
+AbsentGivesThree = (r : Record) (n : ℕ) (call : Quiet) → sound r ≡ true → zoneAt r n .present ≡ false → PointsAt n call → answerTo r (quiet call) ≡ refusedSilently 3 r []
 
 -- ---- "At any moment the kilograms on all zones equal those of all done bookings less all done shipments since the empty record"
 
@@ -117,14 +123,14 @@ pub record NotRebooked (n : ℕ) (r : Record) (call : Call) : Type 0 where
 abbrev pub LeftAlone : Type 0
 LeftAlone = (r : Record) (n : ℕ) (calls : List Call) → Throughout (NotRebooked n) r calls → kilogramsOn (run r calls) n ≡ kilogramsOn r n
 
--- the numbers that a session's calls are answered, one after the other
-abbrev pub numbersOf : Record → List Call → List ℕ
-numbersOf r [] = []
-numbersOf r (call ∷ calls) = answerTo r call .said .number ∷ numbersOf (after r call) calls
+-- the numbers and the figures that a session's calls are answered, one after the other
+abbrev pub answersOf : Record → List Call → List (ℕ × List Figures)
+answersOf r [] = []
+answersOf r (call ∷ calls) = (answerTo r call .said .number, answerTo r call .said .values) ∷ answersOf (after r call) calls
 
--- "Demand 3 stands between these calls too": in sessions that differ in roads alone each call gets the same number, so the same is booked and shipped; and the record at the end is the same (SameEnd), kilograms included. `by-either-road`, in proofs/Bookings.antt
+-- "Demand 3 stands between these calls too": in sessions that differ in roads alone each call gets the same number and figures, so the same is booked and shipped; and the record at the end is the same (SameEnd), kilograms included. `by-either-road`, in proofs/Bookings.antt
 pub record SameBookings (r : Record) (xs ys : List Call) : Type 0 where
-  pub numbers : numbersOf r xs ≡ numbersOf r ys
+  pub answers : answersOf r xs ≡ answersOf r ys
   pub bookings : doneBookings r xs ≡ doneBookings r ys
   pub shipments : doneShipments r xs ≡ doneShipments r ys
 
@@ -133,15 +139,17 @@ ByEitherRoad = (r : Record) (xs ys : List Call) → Rerouted after OtherRoad r x
 
 -- ---- the buyer's case: "fitters folded head 5 into head 4", of any two heads
 
--- what follows once zone a has been merged into b. Some of it is contained in the rest (Folds, StaysRemoved, Gone), and said out for the buyer
+-- what follows once zone a has been merged into b. Some of it is said out for the buyer: heating-limit is contained in folded, no-booking and no-shipment in gone, and empty in StaysRemoved
 pub record Follows (r : Record) (a b : ℕ) : Type 0 where
   -- at once all of a's kilograms stand on b, b is otherwise as it was, a is the empty zone, its address is free again, and no other zone is touched
   pub folded : Folds r a b (after r (quiet (merge a b)))
   -- b's heating limit too is as it was
   pub heating-limit : figuresOf (zoneAt (after r (quiet (merge a b))) b) Hzbg ≡ figuresOf (zoneAt r b) Hzbg
+  -- and there they stay, through any session, until something is booked on b, shipped from it or merged into it, or b is merged into another
+  pub stand : (calls : List Call) → Throughout (NotRebooked b) (after r (quiet (merge a b))) calls → kilogramsOn (later r (quiet (merge a b)) calls) b ≡ kilogramsOn r b + kilogramsOn r a
   -- through any session, until a is added by a done addition: a stays empty
   pub empty : (calls : List Call) → Throughout (NotAdded a) (after r (quiet (merge a b))) calls → zoneAt (later r (quiet (merge a b)) calls) a ≡ emptyZone
-  -- text to a, and any call without a room that names a, is 3; and until a zone is added with a's old address a frame of document 01's shape to that address is 5: on the roads with room of 32 bytes, and always in silence
+  -- text to a, and any call without a room that names a, adding it apart, is 3; and until a zone is added with a's old address a frame of document 01's shape to that address is 5: on the roads with room of 32 bytes, and in silence
   pub gone : (calls : List Call) (room : List ℕ) → 32 ≤ length room → Gone r a (quiet (merge a b)) calls room
   -- so a booking on a, and a shipment from it, is 3
   pub no-booking : (calls : List Call) (kilograms : ℕ) → Throughout (NotAdded a) (after r (quiet (merge a b))) calls

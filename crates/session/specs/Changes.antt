@@ -51,7 +51,7 @@ pub data Adds (n address range : ℕ) (r : Record) : Call → Type 0 where
 pub data Chooses (n : ℕ) (source : Source) (millivolts : ℕ) (r : Record) : Call → Type 0 where
   chosen : Done r (quiet (chooseSource n source millivolts)) → Chooses n source millivolts r (quiet (chooseSource n source millivolts))
 
--- zone n comes to hold so many kilograms in all (document 02, Req 07): by a done booking ("Booking adds"), by a done shipment ("shipping subtracts": what is left and what was shipped are what was held), or by a done merging of another zone into it
+-- zone n comes to hold so many kilograms in all (document 02, Req 07): by a done booking ("Booking adds"), by a done shipment ("shipping subtracts": what is left and what was shipped are what was held; a done shipment is never of more, by BookingsJudged), or by a done merging of another zone into it
 pub data Rebooks (n kilograms : ℕ) (r : Record) : Call → Type 0 where
   booked : (amount : ℕ) → Done r (quiet (book n amount)) → kilograms ≡ zoneAt r n .kilograms + amount → Rebooks n kilograms r (quiet (book n amount))
   shipped : (amount : ℕ) → Done r (quiet (ship n amount)) → kilograms + amount ≡ zoneAt r n .kilograms → Rebooks n kilograms r (quiet (ship n amount))
@@ -75,7 +75,7 @@ pub record Sets (r : Record) (n : ℕ) (call : Call) (z : Zone) : Type 0 where
 abbrev pub WhatIsDoneIsSet : Type 0
 WhatIsDoneIsSet = (r : Record) (call : Call) (n : ℕ) → Sets r n call (zoneAt (after r call) n)
 
--- and nothing else becomes of zone n: it stays as it is or, where it is present, gets what is written, reported, chosen or booked, or is emptied or mended; where it is absent, it may become a new zone
+-- and nothing else becomes of zone n: it stays as it is or, where it is present, gets what is written, reported or chosen, or other kilograms, or is emptied or mended; where it is absent, it may become a new zone
 pub data Becomes (r : Record) (n : ℕ) (call : Call) (z : Zone) : Type 0 where
   stays : z ≡ zoneAt r n → Becomes r n call z
   written : (figures : Figures) → Writes n figures r call → zoneAt r n .present ≡ true → SetsFigures (zoneAt r n) figures z → Becomes r n call z
@@ -99,7 +99,7 @@ NotAdded n r call = (address range : ℕ) → Adds n address range r call → �
 abbrev pub NotGiven : ℕ → Record → Call → Type 0
 NotGiven address r call = (n range : ℕ) → Adds n address range r call → ⊥
 
--- no figures of that group are written to zone n, it is not removed, by merging either, and, if the group is AHUE, no window of it is mended
+-- no figures of that group are written to zone n, it is neither removed nor merged into another, and, if the group is AHUE, no window of it is mended
 pub record NotRewritten (n : ℕ) (group : Group) (r : Record) (call : Call) : Type 0 where
   pub not-written : (figures : Figures) → groupOf figures ≡ group → Writes n figures r call → ⊥
   pub not-removed : Removes n r call → ⊥

@@ -88,7 +88,7 @@ SolwCounts = (r : Record) (n : ℕ) (figures : SetpointFigures) (call : Call) �
 
 -- ---- how long a choice lasts
 
--- no source is chosen for zone n, and it is not removed, by merging either
+-- no source is chosen for zone n, and it is neither removed nor merged into another
 pub record NotRechosen (n : ℕ) (r : Record) (call : Call) : Type 0 where
   pub not-chosen : (source : Source) (millivolts : ℕ) → Chooses n source millivolts r call → ⊥
   pub not-removed : Removes n r call → ⊥
