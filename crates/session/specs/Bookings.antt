@@ -145,7 +145,7 @@ pub record Follows (r : Record) (a b : ℕ) : Type 0 where
   pub folded : Folds r a b (after r (quiet (merge a b)))
   -- b's heating limit too is as it was
   pub heating-limit : figuresOf (zoneAt (after r (quiet (merge a b))) b) Hzbg ≡ figuresOf (zoneAt r b) Hzbg
-  -- and there they stay, through any session, until something is booked on b, shipped from it or merged into it, or b is merged into another
+  -- a's kilograms stay on b, with b's own, through any session, until something is booked on b, shipped from it or merged into it, or b is merged into another
   pub stand : (calls : List Call) → Throughout (NotRebooked b) (after r (quiet (merge a b))) calls → kilogramsOn (later r (quiet (merge a b)) calls) b ≡ kilogramsOn r b + kilogramsOn r a
   -- through any session, until a is added by a done addition: a stays empty
   pub empty : (calls : List Call) → Throughout (NotAdded a) (after r (quiet (merge a b))) calls → zoneAt (later r (quiet (merge a b)) calls) a ≡ emptyZone
