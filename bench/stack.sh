@@ -3,10 +3,11 @@
 #
 #     sh bench/stack.sh
 #
-# The checker runs on a thread whose stack is one mapping of 1,024 MiB. A page of it that was used once stays resident,
-# so the resident size of that mapping, read from /proc while the checker is at work, is the most that it has used so
-# far. What is used in the last moments before the checker ends may be missed. The crates are proved in a copy of the
-# repository, one at a time; it takes as long as the first proof.
+# The checker runs on a thread whose stack is one mapping of 1,024 MiB. A page of it that was used once stays
+# resident, so the resident size of that mapping (at an address that begins with 7 on an x86-64 and with ffff on an
+# Arm: the checker has another one of that size below), read from /proc while the checker is at work, is the most that
+# it has used so far. What is used in the last moments before the checker ends may be missed. The crates are proved in
+# a copy of the repository, one at a time; it takes as long as the first proof.
 set -u
 unset CDPATH
 
@@ -23,8 +24,8 @@ look() {
         case $words in *"--crate-name "*"$copy/crates/"*) ;; *) continue ;; esac
         crate=${words#*--crate-name }
         awk -v crate="${crate%% *}" '
-            /^7[0-9a-f]*-7[0-9a-f]* rw-p / { mapped = 1 }
-            /^[0-9a-f]*-[0-9a-f]* / && !/ rw-p / { mapped = 0 }
+            /^(7|ffff)[0-9a-f]*-(7|ffff)[0-9a-f]* rw-p / { mapped = 1 }
+            /^[0-9a-f]*-[0-9a-f]* / && !/^(7|ffff)[0-9a-f]*-(7|ffff)[0-9a-f]* rw-p / { mapped = 0 }
             mapped && /^Size: +1048576 kB/ { stack = 1 }
             mapped && stack && /^Rss:/ { print crate, $2; stack = 0 }' "$maps" 2>/dev/null
     done
