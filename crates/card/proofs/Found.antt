@@ -82,6 +82,14 @@ found-nowhere r address = (none-holds r address, λ h. by-found (findOf r addres
     by-found (At k) e h = never (sym (h k) ∙ is-first r address k e .here)
     by-found Nowhere e h = e
 
+-- two records whose zones hold an address alike find it alike
+pub find-alike : (r r′ : Record) (address : ℕ) → ((m : ℕ) → holds address (zoneAt r m) ≡ holds address (zoneAt r′ m)) → findOf r address ≡ findOf r′ address
+find-alike r r′ address same = by-found (findOf r address) refl
+  where
+    by-found : (x : Found) → findOf r address ≡ x → x ≡ findOf r′ address
+    by-found (At n) e = let f = is-first r address n e in sym (found-first r′ address n .1 (record { here = sym (same n) ∙ f .here; earlier = λ m l. sym (same m) ∙ f .earlier m l }))
+    by-found Nowhere e = sym (found-nowhere r′ address .1 (λ m. sym (same m) ∙ none-holds r address e m))
+
 -- a present zone of a sound record is one of the sixteen
 pub present-below : (r : Record) (n : ℕ) → sound r ≡ true → zoneAt r n .present ≡ true → n < 16
 present-below r n s p = by-place (ltb n 16) refl

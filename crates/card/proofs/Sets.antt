@@ -15,7 +15,7 @@ use Rattle.zone.specs.declared.zones.Zone.{Zone}
 use Rattle.zone.specs.Lists.{isZero}
 use Rattle.zone.specs.Figures.{groupOf}
 use Rattle.zone.specs.Sources.{setpointInUse}
-use Rattle.zone.specs.Zones.{newZone, emptyZone, figuresOf, stateNumbered, addressInRange, rangeKnown, withKilograms}
+use Rattle.zone.specs.Zones.{newZone, emptyZone, figuresOf, stateNumbered, addressInRange, rangeKnown, withFigures, withKilograms}
 use Rattle.zone.specs.Rules.{SetsFigures, SetsStatus, SetsOrigin, SetsKilograms}
 use Rattle.zone.proofs.Tests.{neither}
 use Rattle.zone.proofs.Sound.{fits, empty-sound}
@@ -110,6 +110,10 @@ book-sets r n kg e = rw (done-zone r n (bookAt (zoneAt r n) kg) (book-at-zone r 
 pub ship-sets : (r : Record) (n kg : ℕ) → shipOf r n kg .number ≡ 0 → SetsKilograms (zoneAt r n) (zoneAt r n .kilograms - kg) (zoneAt (shipOf r n kg .after) n)
 unfolding shipOf
 ship-sets r n kg e = rw (done-zone r n (shipAt (zoneAt r n) kg) (ship-at-zone r n kg e) e) (sets-kilograms (zoneAt r n) (zoneAt r n .kilograms - kg))
+
+pub write-after : (r : Record) (n : ℕ) (figures : Figures) → applyOf r n (Write figures) .number ≡ 0 → applyOf r n (Write figures) .after ≡ withZone r n (withFigures (zoneAt r n) figures)
+unfolding applyOf
+write-after r n figures e = done-after r n (zoneRows r n (commandAt (zoneAt r n) (Write figures))) [] (withFigures (zoneAt r n) figures) e
 
 pub book-after : (r : Record) (n kg : ℕ) → bookOf r n kg .number ≡ 0 → bookOf r n kg .after ≡ withZone r n (withKilograms (zoneAt r n) (zoneAt r n .kilograms + kg))
 unfolding bookOf

@@ -1,5 +1,6 @@
 pub mod Seen
 pub mod CallLaws
+pub mod Local
 pub mod Worked
 pub mod Exactly
 pub mod Replies

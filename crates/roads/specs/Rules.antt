@@ -10,13 +10,15 @@ use Rattle.zone.specs.declared.figures.Command.the-variants.{Write}
 use Rattle.card.specs.declared.records.Record.{Record}
 use Rattle.card.specs.Records.{zoneAt, sound, noZone}
 use Rattle.card.specs.Calls.{applyOf}
+use Rattle.wire.specs.declared.Parsed.{Parsed}
 use Rattle.wire.specs.declared.Parsed.the-variants.{Known}
 use Rattle.wire.specs.Road.{carriesCommand}
 use Rattle.line.specs.Line.{textRoad, lineOf, lineRead}
 use Rattle.line.specs.Places.{offset, wrongIn, outOf}
 use Rattle.line.specs.Rules.{BehindSpace}
-use Rattle.frame.specs.Frame.{frameRoad, frameOf}
-use Rattle.roads.specs.Calls.{textResult, answerText, textPlace, frameResult}
+use Rattle.frame.specs.declared.reading.Framed.the-variants.{Request}
+use Rattle.frame.specs.Frame.{frameRoad, frameOf, frameRead}
+use Rattle.roads.specs.Calls.{parsedAt, textResult, answerText, textPlace, zoneFound, holder, frameResult, answerFrame}
 
 -- A command that a road carries, sent by it with reply room of 32 bytes, comes to what applying the command comes to: number, figures and record. By frame, to the address of a present zone of a sound record.
 -- `text-applies` and `frame-applies`, in proofs/Applied.antt
@@ -26,6 +28,26 @@ LineApplies = (r : Record) (n : ℕ) (command : Command) (room : List ℕ) → 3
 abbrev pub FrameApplies : Type 0
 FrameApplies = (r : Record) (n : ℕ) (command : Command) (room : List ℕ) → sound r ≡ true → zoneAt r n .present ≡ true → 32 ≤ length room → carriesCommand frameRoad command ≡ true
     → frameResult r (frameOf (zoneAt r n .address) command) room ≡ applyOf r n command
+
+-- ---- what an answer hangs on
+
+-- two records of which zone n decides alike of what was read: both are sound or neither is, the zone is there in both or in neither, it refuses the same and tells the same
+pub record DecidedAlike (r r′ : Record) (n : ℕ) (parsed : Parsed) : Type 0 where
+  pub both-sound : sound r ≡ sound r′
+  pub there : noZone r n ≡ noZone r′ n
+  pub rows : parsedAt (zoneAt r n) parsed .rows ≡ parsedAt (zoneAt r′ n) parsed .rows
+  pub values : parsedAt (zoneAt r n) parsed .values ≡ parsedAt (zoneAt r′ n) parsed .values
+
+-- what is answered by a road, in its room, hangs on that alone: on no other zone, and on nothing of this one that the command does not ask for.
+-- `text-local` and `frame-local`, in proofs/Local.antt
+abbrev pub LineHangsOnItsZone : Type 0
+LineHangsOnItsZone = (r r′ : Record) (n : ℕ) (line room : List ℕ) → DecidedAlike r r′ n (lineRead line) → answerText r n line room .said ≡ answerText r′ n line room .said
+
+-- a frame goes to the zone that holds its address, the same in both; one that is none, or whose checksum differs, asks nothing of it
+abbrev pub FrameHangsOnItsZone : Type 0
+FrameHangsOnItsZone = (r r′ : Record) (bytes room : List ℕ) → sound r ≡ sound r′ → holder r bytes ≡ holder r′ bytes
+    → ((address : ℕ) (parsed : Parsed) → frameRead bytes ≡ Request address parsed → DecidedAlike r r′ (zoneFound (holder r bytes)) parsed)
+    → answerFrame r bytes room .said ≡ answerFrame r′ bytes room .said
 
 -- ---- the place that an answer to a line carries (document 02, Req 04)
 

@@ -29,9 +29,11 @@ use Rattle.card.proofs.Repairs.{repair-of-sound}
 use Rattle.wire.specs.declared.Parsed.{Parsed}
 use Rattle.wire.specs.declared.Parsed.the-variants.{Known, Unknown, Syntax}
 use Rattle.line.specs.Line.{lineRead}
-use Rattle.frame.specs.Frame.{addressIn, bodyIn, shaped, checksumRight, bodyRead}
+use Rattle.frame.specs.Frame.{addressIn, bodyIn, bodyRead}
 use Rattle.roads.specs.Acknowledgements.{textReply, frameReply}
-use Rattle.roads.specs.Calls.{said, tooSmall, isUnknown, isSyntax, parsedAt, textResult, answerText, placeBy, textPlace, isNowhere, zoneFound, holder, frameResult, answerFrame}
+use Rattle.roads.specs.Calls.{said, parsedAt, textResult, answerText, placeBy, textPlace, zoneFound, holder, frameResult, answerFrame}
+use Rattle.roads.specs.Rules.{DecidedAlike}
+use Rattle.roads.proofs.Local.{text-rows, frame-rows}
 use Rattle.session.specs.Sessions.{text, frame, composeLine, composeFrame, Quiet, add, remove, report, apply, chooseSource, setpointInUse, book, ship, merge, repair, Call, inRoom, quiet, answerTo, after, resultOf, run}
 use Rattle.session.specs.Sources.{quietOfSource, ofSource, struck, otherAnswers, Alike, SourcesAreUnseen}
 use Rattle.session.proofs.Demand3.{stays-sound}
@@ -134,35 +136,21 @@ module _ {r r′ : Record} (a : Alike r r′) where
 
   -- ---- call by call
 
-  text-seen : (n : ℕ) (line room : List ℕ) → Seen (textResult r n line room) (textResult r′ n line room)
-  text-seen n line room =
-      let p = lineRead line in
+  -- what was read is decided alike at the zone that it goes to
+  decided : (n : ℕ) (p : Parsed) → DecidedAlike r r′ n p
+  decided n p =
       let b = parsed-blind p in
-      stored-seen n (λ z. parsedAt z p) b _ _
-      (λ i.
-      (tooSmall room gives 1)
-      ∷ (not (same-sound a i) gives 2)
-      ∷ (same-there a n i gives 3)
-      ∷ (isUnknown p gives 7)
-      ∷ (isSyntax p gives 8)
-      ∷ same-rows n (λ z. parsedAt z p) b i)
+      record { both-sound = same-sound a; there = same-there a n; rows = same-rows n (λ z. parsedAt z p) b; values = of-zone a (λ z. parsedAt z p .values) (b .values) n }
+
+  text-seen : (n : ℕ) (line room : List ℕ) → Seen (textResult r n line room) (textResult r′ n line room)
+  text-seen n line room = let p = lineRead line in stored-seen n (λ z. parsedAt z p) (parsed-blind p) _ _ (text-rows r r′ n line room (decided n p))
 
   frame-seen : (bytes room : List ℕ) → Seen (frameResult r bytes room) (frameResult r′ bytes room)
   frame-seen bytes room =
       let p = bodyRead (bodyIn bytes) in
-      let b = parsed-blind p in
       let n = zoneFound (holder r bytes) in
-      rw (← (same-found a (addressIn bytes)))
-      (stored-seen n (λ z. parsedAt z p) b _ _
-      (λ i.
-      (tooSmall room gives 1)
-      ∷ (not (same-sound a i) gives 2)
-      ∷ (not (shaped bytes) gives 4)
-      ∷ (isNowhere (holder r bytes) gives 5)
-      ∷ (not (checksumRight bytes) gives 6)
-      ∷ (isUnknown p gives 7)
-      ∷ (isSyntax p gives 8)
-      ∷ same-rows n (λ z. parsedAt z p) b i))
+      let e = same-found a (addressIn bytes) in
+      rw (← e) (stored-seen n (λ z. parsedAt z p) (parsed-blind p) _ _ (rw (← e) at (frame-rows r r′ bytes room e (decided n p))))
 
   -- a merging looks at the kilograms of two zones, and sets these and no source
   merge-seen : (n m : ℕ) → Seen (resultOf r (merge n m)) (resultOf r′ (merge n m))

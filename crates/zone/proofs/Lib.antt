@@ -3,6 +3,7 @@ pub mod Groups
 pub mod Table
 pub mod Made
 pub mod Written
+pub mod Order
 pub mod Sound
 pub mod Mended
 pub mod InUse

@@ -1,4 +1,4 @@
--- Document 01's rules of what is written, as statements about a zone before and after. proofs/Written.antt proves them of the definitions: sets-figures, sets-status and, of document 02, sets-origin (Req 08) and sets-kilograms (Req 07). At the end those of Req 06, and how Req 08 rounds.
+-- Document 01's rules of what is written, as statements about a zone before and after. proofs/Written.antt proves them of the definitions: sets-figures, sets-status and, of document 02, sets-origin (Req 08) and sets-kilograms (Req 07). At the end those of Req 06, how Req 08 rounds, and what Req 10 says of one zone.
 use Prim.Native.Nat.{ℕ, _+_, _*_, _≤_, _<_}
 use mathlib.Core.Path.{_≡_}
 use mathlib.Core.Logic.{_↔_}
@@ -13,7 +13,7 @@ use Rattle.zone.specs.declared.zones.Watch.the-variants.{Window}
 use Rattle.zone.specs.declared.zones.Zone.{Zone}
 use Rattle.zone.specs.Figures.{groupOf, eachInRange, opens, inRange}
 use Rattle.zone.specs.Sources.{byVoltage}
-use Rattle.zone.specs.Zones.{figuresOf, zoneOtherwiseSound, zoneSound}
+use Rattle.zone.specs.Zones.{figuresOf, zoneOtherwiseSound, zoneSound, withFigures}
 
 -- the zone stays present, or absent, with its address and its temperature range
 pub record SameHead (before after : Zone) : Type 0 where
@@ -73,3 +73,11 @@ SoundAsBefore = (z : Zone) → ((window : WindowFigures) → Shut z window → �
 -- "millivolts times range divided by 10,000, rounded down" (document 02, Req 08): the most whole degrees that are not above so many ten-thousandths of the range. `rounded-down`, in proofs/InUse.antt
 abbrev pub RoundedDown : Type 0
 RoundedDown = (millivolts range : ℕ) → (byVoltage millivolts range * 10000 ≤ millivolts * range) × (millivolts * range < (byVoltage millivolts range + 1) * 10000)
+
+-- "Two writes .. to different groups of one zone, must give the same record .. in either order" (document 02, Req 10): the zone is the same. `groups-commute`, in proofs/Order.antt
+abbrev pub GroupsCommute : Type 0
+GroupsCommute = (z : Zone) (f g : Figures) → (groupOf f ≡ groupOf g → ⊥) → withFigures (withFigures z f) g ≡ withFigures (withFigures z g) f
+
+-- "where two writes go to the same group of one zone .. the record is that of the second alone": the first leaves no trace. `last-stands`, in proofs/Order.antt
+abbrev pub LastStands : Type 0
+LastStands = (z : Zone) (f g : Figures) → groupOf f ≡ groupOf g → withFigures (withFigures z f) g ≡ withFigures z g
