@@ -3,6 +3,7 @@ use Prim.Native.Nat.{ℕ}
 use mathlib.Core.Path.{_≡_, refl, sym, ap, _∙_, subst}
 use mathlib.Core.Bool.{Bool, true, false, cond, not}
 use mathlib.Core.List.{List, [], _∷_}
+use borrow.Author.Tests.{eqb-true}
 use Rattle.zone.specs.declared.figures.Figures.{Figures}
 use Rattle.zone.specs.Lists.{isZero}
 use Rattle.card.specs.declared.records.Record.{Record}
@@ -15,12 +16,12 @@ use Rattle.frame.specs.declared.reading.Framed.the-variants.{NoFrame, BadSum, R
 use Rattle.frame.specs.Frame.{shaped, bodyIn, addressIn, checksumRight, bodyRead, frameRead}
 use Rattle.roads.specs.Acknowledgements.{textReply, frameReply}
 use Rattle.roads.specs.Calls.{said, tooSmall, isUnknown, isSyntax, textRows, textResult, inTextReply, answerText, isNowhere, zoneFound, holder, frameRows, frameResult, inFrameReply, answerFrame}
-use Rattle.roads.specs.Rules.{DecidedAlike, LineHangsOnItsZone, FrameHangsOnItsZone}
+use Rattle.roads.specs.Rules.{RefusesAlike, TellsAlike, LineHangsOnItsZone, FrameHangsOnItsZone}
 use Rattle.roads.proofs.CallLaws.{no-shape, bad-sum, right-sum}
 
 -- ---- by the same refusals
 
-pub text-rows : (r r′ : Record) (n : ℕ) (line room : List ℕ) → DecidedAlike r r′ n (lineRead line) → textRows r n line room ≡ textRows r′ n line room
+pub text-rows : (r r′ : Record) (n : ℕ) (line room : List ℕ) → RefusesAlike r r′ n (lineRead line) → textRows r n line room ≡ textRows r′ n line room
 text-rows r r′ n line room d = λ i.
     (tooSmall room gives 1)
     ∷ (not (d .both-sound i) gives 2)
@@ -29,7 +30,7 @@ text-rows r r′ n line room d = λ i.
     ∷ (isSyntax (lineRead line) gives 8)
     ∷ d .rows i
 
-pub frame-rows : (r r′ : Record) (bytes room : List ℕ) → holder r bytes ≡ holder r′ bytes → DecidedAlike r r′ (zoneFound (holder r bytes)) (bodyRead (bodyIn bytes))
+pub frame-rows : (r r′ : Record) (bytes room : List ℕ) → holder r bytes ≡ holder r′ bytes → RefusesAlike r r′ (zoneFound (holder r bytes)) (bodyRead (bodyIn bytes))
     → frameRows r bytes room ≡ frameRows r′ bytes room
 frame-rows r r′ bytes room e d =
     rw (← e)
@@ -52,15 +53,19 @@ text-said room o o′ n v = λ i. said (n i) (v i) (textReply (n i) (v i)) room
 frame-said : (address : ℕ) (room : List ℕ) (o o′ : Result Record) → o .number ≡ o′ .number → o .values ≡ o′ .values → inFrameReply address o room .said ≡ inFrameReply address o′ room .said
 frame-said address room o o′ n v = λ i. said (n i) (v i) (frameReply address (n i) (v i)) room
 
--- by the same refusals the same number, and of the same values the same
-told-alike : (rows rows′ : List Row) (values values′ : List Figures) → rows ≡ rows′ → values ≡ values′ → cond (isZero (first rows)) values [] ≡ cond (isZero (first rows′)) values′ []
-told-alike rows rows′ values values′ e v = λ i. cond (isZero (first (e i))) (v i) []
+-- by the same refusals the same number, and where that is 0 of the same values the same
+told-alike : (rows rows′ : List Row) (values values′ : List Figures) → rows ≡ rows′ → (first rows ≡ 0 → values ≡ values′) → cond (isZero (first rows)) values [] ≡ cond (isZero (first rows′)) values′ []
+told-alike rows rows′ values values′ e v = by-done (isZero (first rows)) refl ∙ ap (λ (l : List Row). cond (isZero (first l)) values′ []) e
+  where
+    by-done : (t : Bool) → isZero (first rows) ≡ t → cond (isZero (first rows)) values [] ≡ cond (isZero (first rows)) values′ []
+    by-done true q = rw q (v (eqb-true (first rows) 0 q))
+    by-done false q = rw q
 
 pub text-local : LineHangsOnItsZone
 unfolding answerText
-text-local r r′ n line room d =
+text-local r r′ n line room d v =
     let rows = text-rows r r′ n line room d in
-    text-said room (textResult r n line room) (textResult r′ n line room) (ap first rows) (told-alike _ _ _ _ rows (d .values))
+    text-said room (textResult r n line room) (textResult r′ n line room) (ap first rows) (told-alike _ _ _ _ rows v)
 
 pub frame-local : FrameHangsOnItsZone
 unfolding answerFrame
@@ -86,6 +91,7 @@ frame-local r r′ bytes room s e d = frame-said (addressIn bytes) room (frameRe
           silent (tooSmall room) (not (sound r)) false (isNowhere (holder r bytes)) _ ∙ sym (silent (tooSmall room) (not (sound r′)) false (isNowhere (holder r bytes)) _),
         )
     by-reading (Request a p) q =
-        let k = subst (DecidedAlike r r′ (zoneFound (holder r bytes))) (right-sum bytes a p q .3) (d a p q) in
-        let rows = frame-rows r r′ bytes room e k in
-        (ap first rows, told-alike _ _ _ _ rows (rw (← e) (k .values)))
+        let n = zoneFound (holder r bytes) in
+        let body = right-sum bytes a p q .3 in
+        let rows = frame-rows r r′ bytes room e (subst (RefusesAlike r r′ n) body (d a p q .0)) in
+        (ap first rows, told-alike _ _ _ _ rows (λ z. rw (← e) (subst (TellsAlike r r′ n) body (d a p q .1 z))))

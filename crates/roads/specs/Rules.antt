@@ -31,22 +31,27 @@ FrameApplies = (r : Record) (n : ℕ) (command : Command) (room : List ℕ) → 
 
 -- ---- what an answer hangs on
 
--- two records of which zone n decides alike of what was read: both are sound or neither is, the zone is there in both or in neither, it refuses the same and tells the same
-pub record DecidedAlike (r r′ : Record) (n : ℕ) (parsed : Parsed) : Type 0 where
+-- two records of which zone n refuses alike what was read: both are sound or neither is, the zone is there in both or in neither, and its own refusals are the same
+pub record RefusesAlike (r r′ : Record) (n : ℕ) (parsed : Parsed) : Type 0 where
   pub both-sound : sound r ≡ sound r′
   pub there : noZone r n ≡ noZone r′ n
   pub rows : parsedAt (zoneAt r n) parsed .rows ≡ parsedAt (zoneAt r′ n) parsed .rows
-  pub values : parsedAt (zoneAt r n) parsed .values ≡ parsedAt (zoneAt r′ n) parsed .values
 
--- what is answered by a road, in its room, hangs on that alone: on no other zone, and on nothing of this one that the command does not ask for.
+-- and of which it tells the same
+abbrev pub TellsAlike : Record → Record → ℕ → Parsed → Type 0
+TellsAlike r r′ n parsed = parsedAt (zoneAt r n) parsed .values ≡ parsedAt (zoneAt r′ n) parsed .values
+
+-- what is answered by a road, in its room, hangs on these alone, and on the second only where it is done: on no other zone, and on nothing of this one that the command does not ask for.
 -- `text-local` and `frame-local`, in proofs/Local.antt
 abbrev pub LineHangsOnItsZone : Type 0
-LineHangsOnItsZone = (r r′ : Record) (n : ℕ) (line room : List ℕ) → DecidedAlike r r′ n (lineRead line) → answerText r n line room .said ≡ answerText r′ n line room .said
+LineHangsOnItsZone = (r r′ : Record) (n : ℕ) (line room : List ℕ) → RefusesAlike r r′ n (lineRead line) → (answerText r n line room .said .number ≡ 0 → TellsAlike r r′ n (lineRead line))
+    → answerText r n line room .said ≡ answerText r′ n line room .said
 
 -- a frame goes to the zone that holds its address, the same in both; one that is none, or whose checksum differs, asks nothing of it
 abbrev pub FrameHangsOnItsZone : Type 0
 FrameHangsOnItsZone = (r r′ : Record) (bytes room : List ℕ) → sound r ≡ sound r′ → holder r bytes ≡ holder r′ bytes
-    → ((address : ℕ) (parsed : Parsed) → frameRead bytes ≡ Request address parsed → DecidedAlike r r′ (zoneFound (holder r bytes)) parsed)
+    → ((address : ℕ) (parsed : Parsed) → frameRead bytes ≡ Request address parsed
+    → RefusesAlike r r′ (zoneFound (holder r bytes)) parsed × (answerFrame r bytes room .said .number ≡ 0 → TellsAlike r r′ (zoneFound (holder r bytes)) parsed))
     → answerFrame r bytes room .said ≡ answerFrame r′ bytes room .said
 
 -- ---- the place that an answer to a line carries (document 02, Req 04)

@@ -38,7 +38,7 @@ use Rattle.session.specs.Changes.{Writes, by-apply, by-line, by-frame, R
 use Rattle.session.proofs.Answering.{record-kept, by-done}
 use Rattle.session.proofs.Done.{Applied, line-is-done, frame-is-done}
 
-by-zone : (n m : ℕ) {P : Type 0} → (n ≡ m → P) → ((n ≡ m → ⊥) → P) → P
+pub by-zone : (n m : ℕ) {P : Type 0} → (n ≡ m → P) → ((n ≡ m → ⊥) → P) → P
 by-zone n m {P} f g = by-test (eqb n m) refl
   where
     by-test : (t : Bool) → eqb n m ≡ t → P
@@ -71,15 +71,15 @@ text-others : (r : Record) (n : ℕ) (line room : List ℕ) (k : ℕ) → (k ≡
 unfolding answerText
 text-others r n line room k u = other-kept r k n _ (isZero (textResult r n line room .number)) u
 
-frame-after : (r : Record) (bytes room : List ℕ) → answerFrame r bytes room .after ≡ frameResult r bytes room .after
+pub frame-after : (r : Record) (bytes room : List ℕ) → answerFrame r bytes room .after ≡ frameResult r bytes room .after
 unfolding answerFrame
 frame-after r bytes room = refl
 
-text-after : (r : Record) (n : ℕ) (line room : List ℕ) → answerText r n line room .after ≡ textResult r n line room .after
+pub text-after : (r : Record) (n : ℕ) (line room : List ℕ) → answerText r n line room .after ≡ textResult r n line room .after
 unfolding answerText
 text-after r n line room = refl
 
-after-of : {o p : Result Record} → o ≡ p → o .after ≡ p .after
+pub after-of : {o p : Result Record} → o ≡ p → o .after ≡ p .after
 after-of e = ap (λ (x : Result Record). x .after) e
 
 -- ---- each call

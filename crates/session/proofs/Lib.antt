@@ -11,3 +11,6 @@ pub mod Sources
 pub mod Unseen
 pub mod Totals
 pub mod Bookings
+pub mod Reordered
+pub mod Order
+pub mod Worked

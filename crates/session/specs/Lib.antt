@@ -4,3 +4,5 @@ pub mod Changes
 pub mod Demands
 pub mod Sources
 pub mod Bookings
+pub mod Inputs
+pub mod Order

@@ -1,0 +1,15 @@
+-- What does not commute, computed. Assumes nothing.
+use mathlib.Core.Path.{refl}
+use Rattle.zone.specs.Figures.{eachInRange, inRange, allZero}
+use Rattle.zone.specs.Zones.{zoneOtherwiseSound, zoneSound}
+use Rattle.card.specs.Records.{differ, sound}
+use Rattle.card.specs.Calls.{addOf, reportOf}
+use Rattle.wire.specs.Road.{formRead, writeRead}
+use Rattle.line.specs.Field.{upToSpace, digitsBehind, figureOf}
+use Rattle.line.specs.Line.{same, groupNamed, lineRead}
+use Rattle.roads.specs.Calls.{answerText}
+use Rattle.session.specs.Order.{OrderMatters}
+
+pub order-matters : OrderMatters
+unfolding inRange eachInRange allZero zoneSound zoneOtherwiseSound differ sound addOf reportOf formRead writeRead upToSpace digitsBehind figureOf same groupNamed lineRead answerText
+order-matters = record { two-writes = refl; this-last = refl; that-last = refl; then-on = refl; on-first = refl; then-added = refl; added-first = refl }
