@@ -34,12 +34,12 @@ use Rattle.roads.proofs.Local.{text-local, frame-local}
 use Rattle.session.specs.Sessions.{Done, answerTo}
 use Rattle.session.specs.Demands.{Present}
 use Rattle.session.specs.Inputs.{Input, on-port, on-pair, sent, step, placeOf, Heard, heard}
-use Rattle.session.specs.Order.{request, readAs, named, Aim, writes, reads, neither, aimAt, aim, SameAim, WritesCommute, AimlessCommute, RefusedCommute, Clash, both-write, write-read, read-write, Apart, ApartCommute, TheLastStands, Each, AnyOrder, AsAtFirst}
+use Rattle.session.specs.Order.{request, readAs, named, Aim, writes, reads, neither, aimAt, aim, SameAim, WritesCommute, AimlessCommute, RefusedCommute, Clash, both-write, write-read, read-write, Apart, ApartCommute, Commute, TheLastStands, Each, AnyOrder, AnyPermittedOrder, AsAtFirst}
 use Rattle.session.proofs.Answering.{record-kept, by-done}
 use Rattle.session.proofs.Done.{line-is-done, frame-is-done}
 use Rattle.session.proofs.Changes.{by-zone, text-after, frame-after, after-of}
 use Rattle.session.proofs.Demand3.{stays-sound}
-use Rattle.session.proofs.Reordered.{reordered}
+use Rattle.session.proofs.Reordered.{reordered, every-order}
 
 -- ---- what an input does
 
@@ -380,11 +380,27 @@ the-last-stands r x y n g a b d = by-effect (effect r x)
 
 -- ---- whole sessions
 
+-- a record in which every input goes where it goes in r
+abbrev Alike : Record → Record → Type 0
+Alike r s = (x : Input) → aim s x ≡ aim r x
+
+stays-alike : (r s : Record) (y : Input) → Alike r s → Alike r (step s y)
+stays-alike r s y same x = same-aim s x y ∙ same x
+
+alike-commute : (r s : Record) (x y : Input) → Alike r s → Apart r x y → Commute s x y
+alike-commute r s x y same apart = apart-commute s x y (λ c. apart (rw (same x, same y) at c))
+
 pub any-order : AnyOrder
-any-order r xs ys w =
-    reordered step heard (Apart r) (λ s. (x : Input) → aim s x ≡ aim r x)
-    (record { stays = λ s y same x. same-aim s x y ∙ same x; commute = λ s x y same apart. apart-commute s x y (λ c. apart (rw (same x, same y) at c)) })
-    r xs ys (λ x. refl) w
+any-order r xs ys w = reordered step heard (Apart r) (Alike r) (record { stays = stays-alike r; commute = alike-commute r }) r xs ys (λ x. refl) w
+
+pub any-permitted-order : AnyPermittedOrder
+any-permitted-order r xs ys p =
+    reordered (λ s p. step s (p .0)) (λ s p. heard s (p .0)) (λ p q. Apart r (p .0) (q .0)) (Alike r)
+    (record {
+      stays = λ s q same. stays-alike r s (q .0) same;
+      commute = λ s a b same apart. let c = alike-commute r s (a .0) (b .0) same apart in record { same-record = c .same-record; first-heard = c .first-heard; second-heard = c .second-heard };
+    })
+    r xs ys (λ x. refl) (every-order (λ p q. Apart r (p .0) (q .0)) xs ys p)
 
 -- an input that reads nothing is heard behind another as before it
 abbrev NoRead : Record → Input → Type 0

@@ -3,6 +3,7 @@
 use Prim.Native.Nat.{ℕ}
 use Prim.Native.String.{String}
 use mathlib.Core.Path.{_≡_}
+use mathlib.Core.Logic.{_⊎_}
 use mathlib.Core.Bool.{cond}
 use mathlib.Core.List.{List, [], _∷_, _++_, map}
 use lib.ListN.{replicate}
@@ -109,10 +110,35 @@ abbrev pub Each : {C : Type 0} → (C → Type 0) → List C → Type 0
 Each P [] = Unit {0}
 Each P (x ∷ xs) = P x × Each P xs
 
--- the second list is the first in another order: its first element is put behind some of the others, from each of which it is apart, and the rest are in another order in turn. So two that change places are apart, and every order in which that holds is made so
+-- the second list is the first in another order: its first element is put behind some of the others, from each of which it is apart, and the rest are in another order in turn. So two that change places are apart
 pub data Reordered {C : Type 0} (Apart : C → C → Type 0) : List C → List C → Type 0 where
   none : Reordered Apart [] []
   put : {xs : List C} (x : C) (before behind : List C) → Each (Apart x) before → Reordered Apart xs (before ++ behind) → Reordered Apart (x ∷ xs) (before ++ x ∷ behind)
+
+-- every order is made so in which two that change places are apart. x stands in a list; y stands behind x in it; nothing stands in it twice
+abbrev pub Has : {C : Type 0} → List C → C → Type 0
+Has [] x = ⊥
+Has (z ∷ zs) x = (z ≡ x) ⊎ Has zs x
+
+abbrev pub Behind : {C : Type 0} → List C → C → C → Type 0
+Behind [] x y = ⊥
+Behind (z ∷ zs) x y = ((z ≡ x) × Has zs y) ⊎ Behind zs x y
+
+abbrev pub NoneTwice : {C : Type 0} → List C → Type 0
+NoneTwice [] = Unit {0}
+NoneTwice (z ∷ zs) = (Has zs z → ⊥) × NoneTwice zs
+
+-- two lists of the same, each once, in which two that change places are apart
+pub record Permitted {C : Type 0} (Apart : C → C → Type 0) (xs ys : List C) : Type 0 where
+  pub once-here : NoneTwice xs
+  pub once-there : NoneTwice ys
+  pub all-there : (x : C) → Has xs x → Has ys x
+  pub no-others : (x : C) → Has ys x → Has xs x
+  pub change-places : (x y : C) → Behind xs x y → Behind ys y x → Apart x y
+
+-- `every-order`, in proofs/Reordered.antt
+abbrev pub EveryOrder : {C : Type 0} → (C → C → Type 0) → Type 0
+EveryOrder {C} Apart = (xs ys : List C) → Permitted Apart xs ys → Reordered Apart xs ys
 
 -- two sessions from r that end in the same record, and in which the same is heard of each call: calls and answers are put in the other order together
 pub record SameBy {C A : Type 0} (step : Record → C → Record) (answer : Record → C → A) (Apart : C → C → Type 0) (r : Record) (xs ys : List C) : Type 0 where
@@ -127,9 +153,14 @@ pub record AnyKinds {C A : Type 0} (step : Record → C → Record) (answer : Re
 abbrev pub InAnyOrder : {C A : Type 0} → (Record → C → Record) → (Record → C → A) → (C → C → Type 0) → (Record → Type 0) → Type 0
 InAnyOrder {C} step answer Apart Kind = AnyKinds step answer Apart Kind → (r : Record) (xs ys : List C) → Kind r → Reordered Apart xs ys → SameBy step answer Apart r xs ys
 
--- and so of lines and frames, from any record, where no two writes to the same group of one zone change places, and no read with a write of what it reads: where each goes is judged by the record at the start. `any-order`, in proofs/Order.antt
+-- and so of lines and frames, from any record; where each goes is judged by the record at the start. `any-order`, in proofs/Order.antt
 abbrev pub AnyOrder : Type 0
 AnyOrder = (r : Record) (xs ys : List Input) → Reordered (Apart r) xs ys → SameBy step heard (Apart r) r xs ys
+
+-- that is, in every order in which no two writes to the same group of one zone change places, and no read with a write of what it reads. The inputs are numbered, so that one that is sent twice counts as two. `any-permitted-order`, in proofs/Order.antt
+abbrev pub AnyPermittedOrder : Type 0
+AnyPermittedOrder = (r : Record) (xs ys : List (Input × ℕ)) → Permitted (λ p q. Apart r (p .0) (q .0)) xs ys
+    → SameBy (λ s p. step s (p .0)) (λ s p. heard s (p .0)) (λ p q. Apart r (p .0) (q .0)) r xs ys
 
 -- where nothing is read the answers do not hang on the order at all, not even on that of two writes to one group: each is the one that is given at the start. `as-at-first`, in proofs/Order.antt
 abbrev pub AsAtFirst : Type 0
