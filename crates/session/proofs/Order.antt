@@ -1,6 +1,7 @@
 -- Which inputs of the two roads may change places (document 02, Req 10), from what each keeps and sets. Assumes nothing.
 use Prim.Native.Nat.{ℕ}
 use mathlib.Core.Path.{_≡_, refl, sym, ap, _∙_, subst}
+use mathlib.Core.Logic.{_⊎_, inl, inr}
 use mathlib.Core.Bool.{Bool, true, false, cond, not, _&&_, _||_}
 use mathlib.Core.List.{List, [], _∷_, map}
 use native.Mathlib.Omega.{arith}
@@ -11,7 +12,6 @@ use Rattle.zone.specs.declared.figures.Group.{Group}
 use Rattle.zone.specs.declared.figures.Figures.{Figures}
 use Rattle.zone.specs.declared.figures.Command.{Command}
 use Rattle.zone.specs.declared.figures.Command.the-variants.{Read, Write}
-use Rattle.zone.specs.declared.status.Status.{Status}
 use Rattle.zone.specs.declared.zones.Zone.{Zone}
 use Rattle.zone.specs.Figures.{groupOf, inRange}
 use Rattle.zone.specs.Zones.{emptyZone, figuresOf, withFigures, locks}
@@ -28,7 +28,7 @@ use Rattle.wire.specs.declared.Parsed.{Parsed}
 use Rattle.wire.specs.declared.Parsed.the-variants.{Known, Unknown, Syntax}
 use Rattle.frame.specs.declared.reading.Framed.the-variants.{Request}
 use Rattle.frame.specs.Frame.{addressIn, frameRead}
-use Rattle.roads.specs.Calls.{Said, parsedAt, placeBy, textPlace, zoneFound}
+use Rattle.roads.specs.Calls.{parsedAt, placeBy, textPlace, zoneFound}
 use Rattle.roads.specs.Rules.{RefusesAlike, TellsAlike}
 use Rattle.roads.proofs.Local.{text-local, frame-local}
 use Rattle.session.specs.Sessions.{Done, answerTo}
@@ -69,6 +69,9 @@ does r (on-pair bytes room) d =
 -- the command that was read
 known-one : {c d : Command} → Known c ≡ Known d → c ≡ d
 known-one e = cc
+
+write-one : {f g : Figures} → Known (Write f) ≡ Known (Write g) → f ≡ g
+write-one e = cc
 
 -- it is a write, and done
 record Stores (r : Record) (x : Input) (f : Figures) : Type 0 where
@@ -329,12 +332,33 @@ apart-commute r x y apart = record { same-record = by-effects (effect r x) (effe
         ∙ ap (λ (zs : List Zone). record { zones = zs }) (set-comm (r .zones) n m (withFigures (zoneAt r n) f) (withFigures (zoneAt r m) g) u)
         ∙ sym (each-its-own r y x g f first t s (λ q. u (sym q))))
 
+-- what a write to zone n, there or not, is after
+written-at : (t : Bool) {n m : ℕ} {g h : Group} → writes m h ≡ cond t neither (writes n g) → (m ≡ n) × (h ≡ g)
+written-at true e = absurd (let z : _≡_ {A = ℕ} 0 1 = cc in omega arith)
+written-at false e = (cc, cc)
+
+never-read : (t : Bool) (n : ℕ) (g : Group) {m : ℕ} {h : Group} → reads m h ≡ cond t neither (writes n g) → ⊥
+never-read true n g e = let z : _≡_ {A = ℕ} 0 1 = cc in omega arith
+never-read false n g e = let z : _≡_ {A = ℕ} 0 1 = cc in omega arith
+
+write-aim : (r : Record) (x : Input) (f : Figures) → readAs x ≡ Known (Write f) → aim r x ≡ cond (noZone r (named r x)) neither (writes (named r x) (groupOf f))
+write-aim r x f e = ap (aimAt r (named r x)) e
+
+-- a write reads nothing
+write-unread : (r : Record) (x y : Input) (f : Figures) → readAs x ≡ Known (Write f) → Unread r x y
+write-unread r x y f e n g p q = never-read (noZone r (named r x)) (named r x) (groupOf f) (sym p ∙ write-aim r x f e)
+
 -- two writes clash in one group of one zone
-one-place : {n m : ℕ} {g h : Group} → Clash (writes n g) (writes m h) → (n ≡ m) × (g ≡ h)
-one-place (both-write n g) = (refl, refl)
+one-place : {a b : Aim} (t u : Bool) (n m : ℕ) (g h : Group) → Clash a b → a ≡ cond t neither (writes n g) → b ≡ cond u neither (writes m h) → (n ≡ m) × (g ≡ h)
+one-place t u n m g h (both-write z k) p q = let c = written-at t p in let d = written-at u q in (sym (c .0) ∙ d .0, sym (c .1) ∙ d .1)
+one-place t u n m g h (write-read z k) p q = absurd (never-read u m h q)
+one-place t u n m g h (read-write z k) p q = absurd (never-read t n g p)
 
 pub writes-commute : WritesCommute
-writes-commute r x y n m g h a b u = apart-commute r x y (λ c. let p = one-place (rw (a, b) at c) in u (p .0) (p .1))
+writes-commute r x y f g p q u =
+    apart-commute r x y (λ c.
+    let e = one-place (noZone r (named r x)) (noZone r (named r y)) (named r x) (named r y) (groupOf f) (groupOf g) c (write-aim r x f p) (write-aim r y g q) in
+    u (e .0) (e .1))
 
 -- what is refused is idle, and the record is the same with it and without
 pub refused-commute : RefusedCommute
@@ -349,32 +373,42 @@ no-clash (both-write n g) e = let z : _≡_ {A = ℕ} 0 1 = cc in omega arith
 no-clash (write-read n g) e = let z : _≡_ {A = ℕ} 0 1 = cc in omega arith
 no-clash (read-write n g) e = let z : _≡_ {A = ℕ} 0 1 = cc in omega arith
 
+-- what goes to no present zone, or is no command, does neither
+aimless : (r : Record) (x : Input) → (noZone r (named r x) ≡ true) ⊎ ((c : Command) → readAs x ≡ Known c → ⊥) → aim r x ≡ neither
+aimless r x (inl e) = by-reading (readAs x)
+  where
+    by-reading : (p : Parsed) → aimAt r (named r x) p ≡ neither
+    by-reading (Known (Read h)) = rw e
+    by-reading (Known (Write f)) = rw e
+    by-reading Unknown = refl
+    by-reading Syntax = refl
+aimless r x (inr u) = by-reading (readAs x) refl
+  where
+    by-reading : (p : Parsed) → readAs x ≡ p → aimAt r (named r x) p ≡ neither
+    by-reading (Known c) q = absurd (u c q)
+    by-reading Unknown q = refl
+    by-reading Syntax q = refl
+
 pub aimless-commute : AimlessCommute
-aimless-commute r x y a = apart-commute r x y (λ c. no-clash c a)
-
-reads-or-writes : {n m : ℕ} {g h : Group} → reads n g ≡ writes m h → ⊥
-reads-or-writes e = let z : _≡_ {A = ℕ} 0 1 = cc in omega arith
-
-one-group : {n m : ℕ} {g h : Group} → writes n g ≡ writes m h → g ≡ h
-one-group e = cc
+aimless-commute r x y a = apart-commute r x y (λ c. no-clash c (aimless r x a))
 
 pub the-last-stands : TheLastStands
-the-last-stands r x y n g a b d = by-effect (effect r x)
+the-last-stands r x y f g p q n h d = by-effect (effect r x)
   where
     second : heard (step r x) y ≡ heard r y
-    second = same-heard r x y (λ d k h p q. reads-or-writes (sym p ∙ b))
+    second = same-heard r x y (λ d. write-unread r y x g q)
+
+    stored : Stores r y g
+    stored = record { reads-as = q; done = same-done r y x second d }
 
     by-effect : Effect r x → (step (step r x) y ≡ step r y) × (heard (step r x) y ≡ heard r y)
     by-effect (idle u) = (ap (λ (s : Record). step s y) (idle-kept r x u), second)
-    by-effect (stores f s) =
-        let w = aims r y n g b in
-        let t : Stores r y (w .figures) = record { reads-as = w .reads-as; done = same-done r y x second d } in
-        let q : named r x ≡ named r y = aims r x n g a .zone ∙ sym (w .zone) in
-        let h : groupOf f ≡ groupOf (w .figures) = let e : writes (named r x) (groupOf f) ≡ writes n g = sym (stores-aim r x f s) ∙ a in one-group e ∙ sym (w .group) in (
-          twice r x y f (w .figures) second s t q
-              ∙ ap (λ (z : Zone). withZone r (named r x) z) (last-stands (zoneAt r (named r x)) f (w .figures) h)
-              ∙ ap (λ (k : ℕ). storedBy r k (w .figures)) q
-              ∙ sym (stores-left r y (w .figures) t),
+    by-effect (stores e s) =
+        let same : groupOf e ≡ groupOf g = ap groupOf (write-one (sym (s .reads-as) ∙ p)) ∙ h in (
+          twice r x y e g second s stored n
+              ∙ ap (λ (z : Zone). withZone r (named r x) z) (last-stands (zoneAt r (named r x)) e g same)
+              ∙ ap (λ (k : ℕ). storedBy r k g) n
+              ∙ sym (stores-left r y g stored),
           second,
         )
 

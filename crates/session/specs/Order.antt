@@ -1,13 +1,15 @@
 -- "Sending order" (document 02, Req 10): which lines and frames may change places, what is the same if they do, and what does not commute. Above each statement stands where it is proved.
--- "P → ⊥" says that P does not hold, "P × Q" that both do; "cond t x y" is x where t holds, and else y.
+-- "P → ⊥" says that P does not hold, "P ⊎ Q" that one of the two does, "P × Q" that both do; "cond t x y" is x where t holds, and else y.
 use Prim.Native.Nat.{ℕ}
 use Prim.Native.String.{String}
 use mathlib.Core.Path.{_≡_}
 use mathlib.Core.Logic.{_⊎_}
-use mathlib.Core.Bool.{cond}
+use mathlib.Core.Bool.{true, cond}
 use mathlib.Core.List.{List, [], _∷_, _++_, map}
 use lib.ListN.{replicate}
 use Rattle.zone.specs.declared.figures.Group.{Group}
+use Rattle.zone.specs.declared.figures.Figures.{Figures}
+use Rattle.zone.specs.declared.figures.Command.{Command}
 use Rattle.zone.specs.declared.figures.Command.the-variants.{Read, Write}
 use Rattle.zone.specs.Lists.{ascii}
 use Rattle.zone.specs.Figures.{groupOf}
@@ -24,7 +26,7 @@ use Rattle.roads.specs.Calls.{zoneFound}
 use Rattle.session.specs.Sessions.{text, add, report, Call, inRoom, quiet, answerTo, after, Done, runBy, run}
 use Rattle.session.specs.Inputs.{Input, on-port, on-pair, sent, step, heard, heardBy}
 
--- ---- where an input goes
+-- ---- where an input goes: "any input that a road reads as a write" is a write, and what it names decides where it goes
 
 -- what it is read as. A frame that is none (4), or whose checksum differs (6), is no more a command than what is unknown (7) or wrong (8)
 abbrev pub request : Framed → Parsed
@@ -36,29 +38,10 @@ abbrev pub readAs : Input → Parsed
 readAs (on-port zone line room) = lineRead line
 readAs (on-pair bytes room) = request (frameRead bytes)
 
--- the zone that it names: that of its port, or the one that holds its address; 16, which is none, where nobody holds it
+-- the zone that it names: that of its port, present or not, or the one that holds its address; 16, which is none, where nobody holds it
 abbrev pub named : Record → Input → ℕ
 named r (on-port zone line room) = zone
 named r (on-pair bytes room) = zoneFound (findOf r (addressIn bytes))
-
--- it writes a group of a zone, or reads it; or it does neither, since it goes to no present zone or is read as no command. Whether it is refused there does not matter here
-pub data Aim : Type 0 where
-  writes : ℕ → Group → Aim
-  reads : ℕ → Group → Aim
-  neither : Aim
-
-abbrev pub aimAt : Record → ℕ → Parsed → Aim
-aimAt r zone (Known (Write figures)) = cond (noZone r zone) neither (writes zone (groupOf figures))
-aimAt r zone (Known (Read group)) = cond (noZone r zone) neither (reads zone group)
-aimAt r zone Unknown = neither
-aimAt r zone Syntax = neither
-
-abbrev pub aim : Record → Input → Aim
-aim r x = aimAt r (named r x) (readAs x)
-
--- no line and no frame alters where another goes. `same-aim`, in proofs/Order.antt
-abbrev pub SameAim : Type 0
-SameAim = (r : Record) (x y : Input) → aim (step r y) x ≡ aim r x
 
 -- ---- "Two writes to different zones, or to different groups of one zone, must give the same record and each the same answer in either order."
 
@@ -73,15 +56,43 @@ Commute r x y = CommuteBy step heard r x y
 
 -- by whichever roads, in rooms of any size, refused or not, from any record. `writes-commute`, in proofs/Order.antt
 abbrev pub WritesCommute : Type 0
-WritesCommute = (r : Record) (x y : Input) (n m : ℕ) (g h : Group) → aim r x ≡ writes n g → aim r y ≡ writes m h → (n ≡ m → g ≡ h → ⊥) → Commute r x y
+WritesCommute = (r : Record) (x y : Input) (f g : Figures) → readAs x ≡ Known (Write f) → readAs y ≡ Known (Write g) → (named r x ≡ named r y → groupOf f ≡ groupOf g → ⊥) → Commute r x y
 
--- a write that goes to no present zone commutes with everything, and so does what is read as no command. `aimless-commute`, in proofs/Order.antt
+-- what goes to no present zone, or is read as no command, commutes with every input. `aimless-commute`, in proofs/Order.antt
 abbrev pub AimlessCommute : Type 0
-AimlessCommute = (r : Record) (x y : Input) → aim r x ≡ neither → Commute r x y
+AimlessCommute = (r : Record) (x y : Input) → (noZone r (named r x) ≡ true) ⊎ ((command : Command) → readAs x ≡ Known command → ⊥) → Commute r x y
 
 -- and so does whatever is refused, a write to the same group too. `refused-commute`, in proofs/Order.antt
 abbrev pub RefusedCommute : Type 0
 RefusedCommute = (r : Record) (x y : Input) → (Done r (sent x) → ⊥) → Commute r x y
+
+-- ---- "And where two writes go to the same group of one zone and the second is done, the record is that of the second alone."
+
+-- from any record, and whether the first is done or not; the second is answered as if it were alone, too. The two forms of AHUE are one group (groupOf). `the-last-stands`, in proofs/Order.antt
+abbrev pub TheLastStands : Type 0
+TheLastStands = (r : Record) (x y : Input) (f g : Figures) → readAs x ≡ Known (Write f) → readAs y ≡ Known (Write g) → named r x ≡ named r y → groupOf f ≡ groupOf g → Done (step r x) (sent y)
+    → (step (step r x) y ≡ step r y) × (heard (step r x) y ≡ heard r y)
+
+-- ---- "The planning tool reorders commands."
+
+-- what an input is after: it writes a group of a present zone, or reads it, or does neither; whether it is refused there does not matter
+pub data Aim : Type 0 where
+  writes : ℕ → Group → Aim
+  reads : ℕ → Group → Aim
+  neither : Aim
+
+abbrev pub aimAt : Record → ℕ → Parsed → Aim
+aimAt r zone (Known (Write figures)) = cond (noZone r zone) neither (writes zone (groupOf figures))
+aimAt r zone (Known (Read group)) = cond (noZone r zone) neither (reads zone group)
+aimAt r zone Unknown = neither
+aimAt r zone Syntax = neither
+
+abbrev pub aim : Record → Input → Aim
+aim r x = aimAt r (named r x) (readAs x)
+
+-- no line and no frame alters what another is after. `same-aim`, in proofs/Order.antt
+abbrev pub SameAim : Type 0
+SameAim = (r : Record) (x y : Input) → aim (step r y) x ≡ aim r x
 
 -- two get into each other's way where they go to the same group of one zone and one of them writes it
 pub data Clash : Aim → Aim → Type 0 where
@@ -92,18 +103,9 @@ pub data Clash : Aim → Aim → Type 0 where
 abbrev pub Apart : Record → Input → Input → Type 0
 Apart r x y = Clash (aim r x) (aim r y) → ⊥
 
--- any two that do not, reads too. `apart-commute`, in proofs/Order.antt
+-- any two that do not get into each other's way commute, reads too. `apart-commute`, in proofs/Order.antt
 abbrev pub ApartCommute : Type 0
 ApartCommute = (r : Record) (x y : Input) → Apart r x y → Commute r x y
-
--- ---- "And where two writes go to the same group of one zone and the second is done, the record is that of the second alone."
-
--- the second is answered as if it were alone, too. `the-last-stands`, in proofs/Order.antt
-abbrev pub TheLastStands : Type 0
-TheLastStands = (r : Record) (x y : Input) (n : ℕ) (g : Group) → aim r x ≡ writes n g → aim r y ≡ writes n g → Done (step r x) (sent y)
-    → (step (step r x) y ≡ step r y) × (heard (step r x) y ≡ heard r y)
-
--- ---- "The planning tool reorders commands."
 
 -- what holds of each of a list
 abbrev pub Each : {C : Type 0} → (C → Type 0) → List C → Type 0
