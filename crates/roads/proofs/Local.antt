@@ -93,5 +93,6 @@ frame-local r r′ bytes room s e d = frame-said (addressIn bytes) room (frameRe
     by-reading (Request a p) q =
         let n = zoneFound (holder r bytes) in
         let body = right-sum bytes a p q .3 in
-        let rows = frame-rows r r′ bytes room e (subst (RefusesAlike r r′ n) body (d a p q .0)) in
-        (ap first rows, told-alike _ _ _ _ rows (λ z. rw (← e) (subst (TellsAlike r r′ n) body (d a p q .1 z))))
+        let same = e (right-sum bytes a p q .0) in
+        let rows = frame-rows r r′ bytes room same (subst (RefusesAlike r r′ n) body (d a p q .0)) in
+        (ap first rows, told-alike _ _ _ _ rows (λ z. rw (← same) (subst (TellsAlike r r′ n) body (d a p q .1 z))))

@@ -17,7 +17,7 @@ use Rattle.line.specs.Line.{textRoad, lineOf, lineRead}
 use Rattle.line.specs.Places.{offset, wrongIn, outOf}
 use Rattle.line.specs.Rules.{BehindSpace}
 use Rattle.frame.specs.declared.reading.Framed.the-variants.{Request}
-use Rattle.frame.specs.Frame.{frameRoad, frameOf, frameRead}
+use Rattle.frame.specs.Frame.{frameRoad, frameOf, shaped, frameRead}
 use Rattle.roads.specs.Calls.{parsedAt, textResult, answerText, textPlace, zoneFound, holder, frameResult, answerFrame}
 
 -- A command that a road carries, sent by it with reply room of 32 bytes, comes to what applying the command comes to: number, figures and record. By frame, to the address of a present zone of a sound record.
@@ -31,25 +31,25 @@ FrameApplies = (r : Record) (n : ℕ) (command : Command) (room : List ℕ) → 
 
 -- ---- what an answer hangs on
 
--- two records of which zone n refuses alike what was read: both are sound or neither is, the zone is there in both or in neither, and its own refusals are the same
+-- two records whose zone n refuses alike what was read: both are sound or neither is, the zone is there in both or in neither, and its own refusals are the same
 pub record RefusesAlike (r r′ : Record) (n : ℕ) (parsed : Parsed) : Type 0 where
   pub both-sound : sound r ≡ sound r′
   pub there : noZone r n ≡ noZone r′ n
   pub rows : parsedAt (zoneAt r n) parsed .rows ≡ parsedAt (zoneAt r′ n) parsed .rows
 
--- and of which it tells the same
+-- and whose zone n tells the same
 abbrev pub TellsAlike : Record → Record → ℕ → Parsed → Type 0
 TellsAlike r r′ n parsed = parsedAt (zoneAt r n) parsed .values ≡ parsedAt (zoneAt r′ n) parsed .values
 
--- what is answered by a road, in its room, hangs on these alone, and on the second only where it is done: on no other zone, and on nothing of this one that the command does not ask for.
+-- What is answered by a road, with its reply and room, hangs on the first alone and, where it is done, on the second: of other zones it matters that the whole record is sound and, for a frame, who holds its address. (The place of a line's answer hangs on the zone's temperature range too.)
 -- `text-local` and `frame-local`, in proofs/Local.antt
 abbrev pub LineHangsOnItsZone : Type 0
 LineHangsOnItsZone = (r r′ : Record) (n : ℕ) (line room : List ℕ) → RefusesAlike r r′ n (lineRead line) → (answerText r n line room .said .number ≡ 0 → TellsAlike r r′ n (lineRead line))
     → answerText r n line room .said ≡ answerText r′ n line room .said
 
--- a frame goes to the zone that holds its address, the same in both; one that is none, or whose checksum differs, asks nothing of it
+-- a frame goes to the zone that holds its address, the same in both; bytes that are none have no address, and neither they nor a frame whose checksum differs ask anything of a zone
 abbrev pub FrameHangsOnItsZone : Type 0
-FrameHangsOnItsZone = (r r′ : Record) (bytes room : List ℕ) → sound r ≡ sound r′ → holder r bytes ≡ holder r′ bytes
+FrameHangsOnItsZone = (r r′ : Record) (bytes room : List ℕ) → sound r ≡ sound r′ → (shaped bytes ≡ true → holder r bytes ≡ holder r′ bytes)
     → ((address : ℕ) (parsed : Parsed) → frameRead bytes ≡ Request address parsed
     → RefusesAlike r r′ (zoneFound (holder r bytes)) parsed × (answerFrame r bytes room .said .number ≡ 0 → TellsAlike r r′ (zoneFound (holder r bytes)) parsed))
     → answerFrame r bytes room .said ≡ answerFrame r′ bytes room .said

@@ -11,6 +11,7 @@ pub mod Sources
 pub mod Unseen
 pub mod Totals
 pub mod Bookings
+pub mod Orders
 pub mod Reordered
 pub mod Order
 pub mod Worked

@@ -12,4 +12,15 @@ use Rattle.session.specs.Order.{OrderMatters}
 
 pub order-matters : OrderMatters
 unfolding inRange eachInRange allZero zoneSound zoneOtherwiseSound differ sound addOf reportOf formRead writeRead upToSpace digitsBehind figureOf same groupNamed lineRead answerText
-order-matters = record { two-writes = refl; this-last = refl; that-last = refl; then-on = refl; on-first = refl; then-added = refl; added-first = refl }
+order-matters = record {
+  one-two = refl;
+  two-one = refl;
+  two-stands = refl;
+  one-stands = refl;
+  written-first = refl;
+  read-first = refl;
+  then-on = refl;
+  on-first = refl;
+  then-added = refl;
+  added-first = refl;
+}
