@@ -1,48 +1,67 @@
--- What an answer of a road hangs on: soundness, and what the zone that it goes to decides. Assumes nothing.
+-- What an answer of a road hangs on: soundness, and what decides at the zone that it goes to. Assumes nothing.
 use Prim.Native.Nat.{ℕ}
-use mathlib.Core.Path.{_≡_, refl, sym, ap, _∙_, subst}
-use mathlib.Core.Bool.{Bool, true, false, cond, not}
+use mathlib.Core.Path.{_≡_, refl, sym, ap, _∙_}
+use mathlib.Core.Bool.{Bool, true, false, cond, not, _||_}
 use mathlib.Core.List.{List, [], _∷_}
+use lib.Dec.{leb}
 use borrow.Author.Tests.{eqb-true}
+use Rattle.zone.specs.declared.figures.Group.{Group}
 use Rattle.zone.specs.declared.figures.Figures.{Figures}
+use Rattle.zone.specs.declared.figures.Command.the-variants.{Read, Write}
+use Rattle.zone.specs.declared.zones.Zone.{Zone}
 use Rattle.zone.specs.Lists.{isZero}
+use Rattle.zone.specs.Figures.{groupOf, inRange}
+use Rattle.zone.specs.Zones.{figuresOf, locks}
 use Rattle.card.specs.declared.records.Record.{Record}
 use Rattle.card.specs.Answers.{Result}
 use Rattle.card.specs.Refusals.{Row, _gives_, first}
-use Rattle.card.specs.Records.{sound}
+use Rattle.card.specs.Records.{zoneAt, sound}
+use Rattle.wire.specs.declared.Parsed.{Parsed}
+use Rattle.wire.specs.declared.Parsed.the-variants.{Known, Unknown, Syntax}
 use Rattle.line.specs.Line.{lineRead}
-use Rattle.frame.specs.declared.reading.Framed.{Framed}
-use Rattle.frame.specs.declared.reading.Framed.the-variants.{NoFrame, BadSum, Request}
-use Rattle.frame.specs.Frame.{shaped, bodyIn, addressIn, checksumRight, bodyRead, frameRead}
+use Rattle.frame.specs.Frame.{shaped, bodyIn, addressIn, checksumRight, bodyRead}
 use Rattle.roads.specs.Acknowledgements.{textReply, frameReply}
-use Rattle.roads.specs.Calls.{said, tooSmall, isUnknown, isSyntax, textRows, textResult, inTextReply, answerText, isNowhere, zoneFound, holder, frameRows, frameResult, inFrameReply, answerFrame}
-use Rattle.roads.specs.Rules.{RefusesAlike, TellsAlike, LineHangsOnItsZone, FrameHangsOnItsZone}
-use Rattle.roads.proofs.CallLaws.{no-shape, bad-sum, right-sum}
+use Rattle.roads.specs.Calls.{said, tooSmall, isUnknown, isSyntax, parsedAt, textRows, textResult, inTextReply, answerText, placeBy, textPlace, isNowhere, zoneFound, holder, frameRows, frameResult, inFrameReply, answerFrame}
+use Rattle.roads.specs.Rules.{JudgesAlike, LineHangsOnItsZone, FrameHangsOnItsZone}
+
+-- ---- what two zones decide
+
+decided-rows : (z z′ : Zone) (p : Parsed) → JudgesAlike z z′ → parsedAt z p .rows ≡ parsedAt z′ p .rows
+decided-rows z z′ (Known (Read g)) j = refl
+decided-rows z z′ (Known (Write f)) j = λ i. (not (inRange (j .range i) f) gives 9) ∷ (locks (j .state i) (groupOf f) gives 10) ∷ []
+decided-rows z z′ Unknown j = refl
+decided-rows z z′ Syntax j = refl
+
+decided-values : (z z′ : Zone) (p : Parsed) → ((g : Group) → p ≡ Known (Read g) → figuresOf z g ≡ figuresOf z′ g) → parsedAt z p .values ≡ parsedAt z′ p .values
+decided-values z z′ (Known (Read g)) e = ap (λ (f : Figures). f ∷ []) (e g refl)
+decided-values z z′ (Known (Write f)) e = refl
+decided-values z z′ Unknown e = refl
+decided-values z z′ Syntax e = refl
 
 -- ---- by the same refusals
 
-pub text-rows : (r r′ : Record) (n : ℕ) (line room : List ℕ) → RefusesAlike r r′ n (lineRead line) → textRows r n line room ≡ textRows r′ n line room
-text-rows r r′ n line room d = λ i.
+pub text-rows : (r r′ : Record) (n : ℕ) (line room : List ℕ) → sound r ≡ sound r′ → JudgesAlike (zoneAt r n) (zoneAt r′ n) → textRows r n line room ≡ textRows r′ n line room
+text-rows r r′ n line room s j = λ i.
     (tooSmall room gives 1)
-    ∷ (not (d .both-sound i) gives 2)
-    ∷ (d .there i gives 3)
+    ∷ (not (s i) gives 2)
+    ∷ ((leb 16 n || not (j .present i)) gives 3)
     ∷ (isUnknown (lineRead line) gives 7)
     ∷ (isSyntax (lineRead line) gives 8)
-    ∷ d .rows i
+    ∷ decided-rows (zoneAt r n) (zoneAt r′ n) (lineRead line) j i
 
-pub frame-rows : (r r′ : Record) (bytes room : List ℕ) → holder r bytes ≡ holder r′ bytes → RefusesAlike r r′ (zoneFound (holder r bytes)) (bodyRead (bodyIn bytes))
-    → frameRows r bytes room ≡ frameRows r′ bytes room
-frame-rows r r′ bytes room e d =
+pub frame-rows : (r r′ : Record) (bytes room : List ℕ) → sound r ≡ sound r′ → holder r bytes ≡ holder r′ bytes
+    → JudgesAlike (zoneAt r (zoneFound (holder r bytes))) (zoneAt r′ (zoneFound (holder r bytes))) → frameRows r bytes room ≡ frameRows r′ bytes room
+frame-rows r r′ bytes room s e j =
     rw (← e)
     (λ i.
     (tooSmall room gives 1)
-    ∷ (not (d .both-sound i) gives 2)
+    ∷ (not (s i) gives 2)
     ∷ (not (shaped bytes) gives 4)
     ∷ (isNowhere (holder r bytes) gives 5)
     ∷ (not (checksumRight bytes) gives 6)
     ∷ (isUnknown (bodyRead (bodyIn bytes)) gives 7)
     ∷ (isSyntax (bodyRead (bodyIn bytes)) gives 8)
-    ∷ d .rows i)
+    ∷ decided-rows (zoneAt r (zoneFound (holder r bytes))) (zoneAt r′ (zoneFound (holder r bytes))) (bodyRead (bodyIn bytes)) j i)
 
 -- ---- what is said
 
@@ -62,37 +81,31 @@ told-alike rows rows′ values values′ e v = by-done (isZero (first rows)) ref
     by-done false q = rw q
 
 pub text-local : LineHangsOnItsZone
-unfolding answerText
-text-local r r′ n line room d v =
-    let rows = text-rows r r′ n line room d in
-    text-said room (textResult r n line room) (textResult r′ n line room) (ap first rows) (told-alike _ _ _ _ rows v)
+unfolding answerText textPlace
+text-local r r′ n line room s j v =
+    let rows = text-rows r r′ n line room s j in
+    let alike = text-said room (textResult r n line room) (textResult r′ n line room) (ap first rows)
+    (told-alike _ _ _ _ rows (λ z. decided-values (zoneAt r n) (zoneAt r′ n) (lineRead line) (v z))) in
+    (alike, λ i. placeBy (first (rows i)) (j .range i) line)
 
 pub frame-local : FrameHangsOnItsZone
 unfolding answerFrame
-frame-local r r′ bytes room s e d = frame-said (addressIn bytes) room (frameResult r bytes room) (frameResult r′ bytes room) (by-reading (frameRead bytes) refl .0) (by-reading (frameRead bytes) refl .1)
+frame-local r r′ bytes room s j v = by-shape (shaped bytes) refl
   where
-    -- refused before its command is judged, it tells nothing
-    silent : (t u v w : Bool) (values : List Figures) → cond (isZero (cond t 1 (cond u 2 (cond v 4 (cond w 5 6))))) values [] ≡ []
-    silent true u v w values = refl
-    silent false true v w values = refl
-    silent false false true w values = refl
-    silent false false false true values = refl
-    silent false false false false values = refl
+    -- no frame: nothing is told
+    silent : (t u : Bool) (values : List Figures) → cond (isZero (cond t 1 (cond u 2 4))) values [] ≡ []
+    silent true u values = refl
+    silent false true values = refl
+    silent false false values = refl
 
-    by-reading : (x : Framed) → frameRead bytes ≡ x → (frameResult r bytes room .number ≡ frameResult r′ bytes room .number) × (frameResult r bytes room .values ≡ frameResult r′ bytes room .values)
-    by-reading NoFrame q =
-        rw (no-shape bytes q) (
-          ap (λ (t : Bool). cond (tooSmall room) 1 (cond (not t) 2 4)) s,
-          silent (tooSmall room) (not (sound r)) true true _ ∙ sym (silent (tooSmall room) (not (sound r′)) true true _),
-        )
-    by-reading (BadSum a) q =
-        rw (bad-sum bytes a q .0, bad-sum bytes a q .1, ← e) (
-          ap (λ (t : Bool). cond (tooSmall room) 1 (cond (not t) 2 (cond (isNowhere (holder r bytes)) 5 6))) s,
-          silent (tooSmall room) (not (sound r)) false (isNowhere (holder r bytes)) _ ∙ sym (silent (tooSmall room) (not (sound r′)) false (isNowhere (holder r bytes)) _),
-        )
-    by-reading (Request a p) q =
+    by-shape : (t : Bool) → shaped bytes ≡ t → answerFrame r bytes room .said ≡ answerFrame r′ bytes room .said
+    by-shape false q =
+        frame-said (addressIn bytes) room (frameResult r bytes room) (frameResult r′ bytes room)
+        (rw q (ap (λ (t : Bool). cond (tooSmall room) 1 (cond (not t) 2 4)) s))
+        (rw q (silent (tooSmall room) (not (sound r)) _ ∙ sym (silent (tooSmall room) (not (sound r′)) _)))
+    by-shape true q =
         let n = zoneFound (holder r bytes) in
-        let body = right-sum bytes a p q .3 in
-        let same = e (right-sum bytes a p q .0) in
-        let rows = frame-rows r r′ bytes room same (subst (RefusesAlike r r′ n) body (d a p q .0)) in
-        (ap first rows, told-alike _ _ _ _ rows (λ z. rw (← same) (subst (TellsAlike r r′ n) body (d a p q .1 z))))
+        let e = j q .0 in
+        let rows = frame-rows r r′ bytes room s e (j q .1) in
+        frame-said (addressIn bytes) room (frameResult r bytes room) (frameResult r′ bytes room) (ap first rows)
+        (told-alike _ _ _ _ rows (λ z. rw (← e) (decided-values (zoneAt r n) (zoneAt r′ n) (bodyRead (bodyIn bytes)) (v z))))

@@ -4,21 +4,22 @@ use mathlib.Core.Path.{_≡_}
 use mathlib.Core.Bool.{true, false}
 use mathlib.Core.List.{List}
 use lib.ListN.{length}
+use Rattle.zone.specs.declared.figures.Group.{Group}
 use Rattle.zone.specs.declared.figures.Figures.{Figures}
 use Rattle.zone.specs.declared.figures.Command.{Command}
-use Rattle.zone.specs.declared.figures.Command.the-variants.{Write}
+use Rattle.zone.specs.declared.figures.Command.the-variants.{Read, Write}
+use Rattle.zone.specs.declared.zones.Zone.{Zone}
+use Rattle.zone.specs.Zones.{figuresOf}
 use Rattle.card.specs.declared.records.Record.{Record}
 use Rattle.card.specs.Records.{zoneAt, sound, noZone}
 use Rattle.card.specs.Calls.{applyOf}
-use Rattle.wire.specs.declared.Parsed.{Parsed}
 use Rattle.wire.specs.declared.Parsed.the-variants.{Known}
 use Rattle.wire.specs.Road.{carriesCommand}
 use Rattle.line.specs.Line.{textRoad, lineOf, lineRead}
 use Rattle.line.specs.Places.{offset, wrongIn, outOf}
 use Rattle.line.specs.Rules.{BehindSpace}
-use Rattle.frame.specs.declared.reading.Framed.the-variants.{Request}
-use Rattle.frame.specs.Frame.{frameRoad, frameOf, shaped, frameRead}
-use Rattle.roads.specs.Calls.{parsedAt, textResult, answerText, textPlace, zoneFound, holder, frameResult, answerFrame}
+use Rattle.frame.specs.Frame.{frameRoad, frameOf, bodyIn, shaped, bodyRead}
+use Rattle.roads.specs.Calls.{textResult, answerText, textPlace, zoneFound, holder, frameResult, answerFrame}
 
 -- A command that a road carries, sent by it with reply room of 32 bytes, comes to what applying the command comes to: number, figures and record. By frame, to the address of a present zone of a sound record.
 -- `text-applies` and `frame-applies`, in proofs/Applied.antt
@@ -31,27 +32,26 @@ FrameApplies = (r : Record) (n : ℕ) (command : Command) (room : List ℕ) → 
 
 -- ---- what an answer hangs on
 
--- two records whose zone n refuses alike what was read: both are sound or neither is, the zone is there in both or in neither, and its own refusals are the same
-pub record RefusesAlike (r r′ : Record) (n : ℕ) (parsed : Parsed) : Type 0 where
-  pub both-sound : sound r ≡ sound r′
-  pub there : noZone r n ≡ noZone r′ n
-  pub rows : parsedAt (zoneAt r n) parsed .rows ≡ parsedAt (zoneAt r′ n) parsed .rows
+-- two zones that judge alike whatever comes to them: both are there or neither is, with the same temperature range and in the same state
+pub record JudgesAlike (z z′ : Zone) : Type 0 where
+  pub present : z .present ≡ z′ .present
+  pub range : z .range ≡ z′ .range
+  pub state : z .status .state ≡ z′ .status .state
 
--- and whose zone n tells the same
-abbrev pub TellsAlike : Record → Record → ℕ → Parsed → Type 0
-TellsAlike r r′ n parsed = parsedAt (zoneAt r n) parsed .values ≡ parsedAt (zoneAt r′ n) parsed .values
-
--- What is answered by a road, with its reply and room, hangs on the first alone and, where it is done, on the second: of other zones it matters that the whole record is sound and, for a frame, who holds its address. (The place of a line's answer hangs on the zone's temperature range too.)
--- `text-local` and `frame-local`, in proofs/Local.antt
+-- A line's answer, with its reply, its room and its place, hangs on whether the record is sound, on how the zone of its port judges and, of a done read, on the figures of its group; on nothing else of that zone, and of no other.
+-- `text-local`, in proofs/Local.antt
 abbrev pub LineHangsOnItsZone : Type 0
-LineHangsOnItsZone = (r r′ : Record) (n : ℕ) (line room : List ℕ) → RefusesAlike r r′ n (lineRead line) → (answerText r n line room .said .number ≡ 0 → TellsAlike r r′ n (lineRead line))
-    → answerText r n line room .said ≡ answerText r′ n line room .said
+LineHangsOnItsZone = (r r′ : Record) (n : ℕ) (line room : List ℕ) → sound r ≡ sound r′ → JudgesAlike (zoneAt r n) (zoneAt r′ n)
+    → (answerText r n line room .said .number ≡ 0 → (group : Group) → lineRead line ≡ Known (Read group) → figuresOf (zoneAt r n) group ≡ figuresOf (zoneAt r′ n) group)
+    → (answerText r n line room .said ≡ answerText r′ n line room .said) × (textPlace r n line room ≡ textPlace r′ n line room)
 
--- a frame goes to the zone that holds its address, the same in both; bytes that are none have no address, and neither they nor a frame whose checksum differs ask anything of a zone
+-- A frame's answer hangs on the same at the zone that holds its address, and so on who holds it. Bytes that are no frame have no address, and no zone is asked for them.
+-- `frame-local`, in proofs/Local.antt
 abbrev pub FrameHangsOnItsZone : Type 0
-FrameHangsOnItsZone = (r r′ : Record) (bytes room : List ℕ) → sound r ≡ sound r′ → (shaped bytes ≡ true → holder r bytes ≡ holder r′ bytes)
-    → ((address : ℕ) (parsed : Parsed) → frameRead bytes ≡ Request address parsed
-    → RefusesAlike r r′ (zoneFound (holder r bytes)) parsed × (answerFrame r bytes room .said .number ≡ 0 → TellsAlike r r′ (zoneFound (holder r bytes)) parsed))
+FrameHangsOnItsZone = (r r′ : Record) (bytes room : List ℕ) → sound r ≡ sound r′
+    → (shaped bytes ≡ true → (holder r bytes ≡ holder r′ bytes) × JudgesAlike (zoneAt r (zoneFound (holder r bytes))) (zoneAt r′ (zoneFound (holder r bytes))))
+    → (answerFrame r bytes room .said .number ≡ 0 → (group : Group) → bodyRead (bodyIn bytes) ≡ Known (Read group)
+    → figuresOf (zoneAt r (zoneFound (holder r bytes))) group ≡ figuresOf (zoneAt r′ (zoneFound (holder r bytes))) group)
     → answerFrame r bytes room .said ≡ answerFrame r′ bytes room .said
 
 -- ---- the place that an answer to a line carries (document 02, Req 04)

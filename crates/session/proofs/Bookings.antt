@@ -26,10 +26,10 @@ use Rattle.card.proofs.Kept.{add-exactly, held-in-range}
 use Rattle.card.proofs.Sets.{add-sets, book-at-zone, ship-at-zone, book-after, ship-after, ship-held, remove-held}
 use Rattle.card.proofs.Merging.{merge-at-zones, merge-after, merge-folds}
 use Rattle.roads.specs.Calls.{said}
-use Rattle.session.specs.Sessions.{Quiet, add, remove, report, apply, chooseSource, setpointInUse, book, ship, merge, repair, Call, inRoom, quiet, answerTo, after, Done, run, Throughout}
+use Rattle.session.specs.Sessions.{Quiet, add, remove, report, apply, chooseSource, setpointInUse, book, ship, merge, repair, Call, inRoom, quiet, answerTo, after, Done, run, answersOf, Throughout}
 use Rattle.session.specs.Changes.{Merges, merged, Removes, removed, merged-away, Adds, added, Rebooks, booked, shipped, moved-in, Becomes, stays, written, was-reported, was-removed, was-added, was-chosen, was-rebooked, was-mended, NotAdded}
 use Rattle.session.specs.Demands.{refusedSilently, later, PointsAt, books, ships, OtherRoad, by-frame, by-text, Rerouted, over, as-before, other-road}
-use Rattle.session.specs.Bookings.{kilogramsOn, RefusedWhere, BookingsAreJudged, AbsentGivesThree, onAllZones, Amounts, nothing, amounts, counted, doneOf, SinceEmpty, Conserved, AlwaysInBounds, NotRebooked, LeftAlone, answersOf, ByEitherRoad, FollowsTheHead}
+use Rattle.session.specs.Bookings.{kilogramsOn, RefusedWhere, BookingsAreJudged, AbsentGivesThree, onAllZones, Amounts, nothing, amounts, counted, doneOf, SinceEmpty, Conserved, AlwaysInBounds, NotRebooked, LeftAlone, ByEitherRoad, FollowsTheHead}
 use Rattle.session.proofs.Answering.{record-kept, by-done}
 use Rattle.session.proofs.Changes.{becomes}
 use Rattle.session.proofs.Demand1.{stays-removed, stays-gone, removal-sound, call-three}

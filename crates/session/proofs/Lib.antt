@@ -11,7 +11,7 @@ pub mod Sources
 pub mod Unseen
 pub mod Totals
 pub mod Bookings
-pub mod Orders
+pub mod Standing
 pub mod Reordered
 pub mod Order
 pub mod Worked

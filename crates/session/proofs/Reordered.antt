@@ -1,15 +1,19 @@
--- A session put in another order, once for any kinds of calls: where two that change places commute, it ends alike, and of each call the same is heard. Assumes nothing.
+-- A session put in a permitted order, once for calls of any kinds: where two that change places commute it ends alike, and each call is answered the same. Assumes nothing.
 use mathlib.Core.Path.{_≡_, refl, sym, ap, _∙_, subst}
+use mathlib.Core.Logic.{_⊎_, inl, inr}
 use mathlib.Core.List.{List, [], _∷_, _++_}
 use Rattle.card.specs.declared.records.Record.{Record}
-use Rattle.session.specs.Sessions.{Call, after, runBy}
-use Rattle.session.specs.Inputs.{heardBy, RunsAlike}
-use Rattle.session.specs.Order.{Each, Reordered, none, put, SameBy, CommuteWhereApart, MayBeReorderedBy}
-use Rattle.session.proofs.Orders.{same-members}
+use Rattle.roads.specs.Calls.{Said}
+use Rattle.session.specs.Sessions.{Call, answerTo, after, runBy, heardBy}
+use Rattle.session.specs.Inputs.{SentAsCalls}
+use Rattle.session.specs.Order.{Has, Before, NoneTwice, Permitted, AlikeBy, CommuteWhereApart, MayBeReordered}
+use Rattle.session.proofs.Standing.{has-more, has-less, has-it, has-front, before-more, before-it, once-less, found}
 
-pub runs-alike : {C : Type 0} (call : C → Call) → RunsAlike call
-runs-alike call r [] = refl
-runs-alike call r (x ∷ xs) = runs-alike call (after r (call x)) xs
+pub sent-as-calls : {C : Type 0} (call : C → Call) → SentAsCalls call
+sent-as-calls call r [] = record { same-end = refl; same-answers = refl }
+sent-as-calls call r (x ∷ xs) =
+    let rest = sent-as-calls call (after r (call x)) xs in
+    record { same-end = rest .same-end; same-answers = ap (λ (l : List Said). answerTo r (call x) .said ∷ l) (rest .same-answers) }
 
 module _ {C A : Type 0} (step : Record → C → Record) (answer : Record → C → A) where
   run-append : (r : Record) (bs cs : List C) → runBy step r (bs ++ cs) ≡ runBy step (runBy step r bs) cs
@@ -20,52 +24,84 @@ module _ {C A : Type 0} (step : Record → C → Record) (answer : Record → C 
   heard-append r [] cs = refl
   heard-append r (b ∷ bs) cs = ap (λ (l : List (C × A)). (b, answer r b) ∷ l) (heard-append (step r b) bs cs)
 
-  -- the calls of a session, with their answers, are the calls
-  each-heard : (P : C → Type 0) (r : Record) (bs : List C) → Each P bs → Each (λ p. P (p .0)) (heardBy step answer r bs)
-  each-heard P r [] e = e
-  each-heard P r (b ∷ bs) e = (e .0, each-heard P (step r b) bs (e .1))
-
-  -- call x, sent behind others: the record is that of x sent first, and of all of them the same is heard
-  record SentBehind (r : Record) (x : C) (before : List C) : Type 0 where
-    same-record : step (runBy step r before) x ≡ runBy step (step r x) before
-    theirs : heardBy step answer r before ≡ heardBy step answer (step r x) before
-    its : answer (runBy step r before) x ≡ answer r x
+  -- call x, sent behind others: the record is that of x sent first, and all of them are answered the same
+  record SentBehind (r : Record) (x : C) (front : List C) : Type 0 where
+    same-record : step (runBy step r front) x ≡ runBy step (step r x) front
+    theirs : heardBy step answer r front ≡ heardBy step answer (step r x) front
+    its : answer (runBy step r front) x ≡ answer r x
 
   module _ (Apart : C → C → Type 0) (Good : Record → Type 0) (k : CommuteWhereApart step answer Apart Good) where
     -- by exchanges of neighbours
-    behind-them : (r : Record) (x : C) (before : List C) → Good r → Each (Apart x) before → SentBehind r x before
+    behind-them : (r : Record) (x : C) (front : List C) → Good r → ((z : C) → Has front z → Apart x z) → SentBehind r x front
     behind-them r x [] g e = record { same-record = refl; theirs = refl; its = refl }
     behind-them r x (b ∷ bs) g e =
-        let c = k .commute r x b g (e .0) in
-        let rest = behind-them (step r b) x bs (k .stays r b g) (e .1) in
+        let c = k .commute r x b g (e b (inl refl)) in
+        let rest = behind-them (step r b) x bs (k .stays r b g) (λ z h. e z (inr h)) in
         record {
           same-record = rest .same-record ∙ ap (λ (s : Record). runBy step s bs) (sym (c .same-record));
-          theirs = λ i. (b, sym (c .second-heard) i) ∷ (rest .theirs ∙ ap (λ (s : Record). heardBy step answer s bs) (sym (c .same-record))) i;
-          its = rest .its ∙ c .first-heard;
+          theirs = λ i. (b, sym (c .answer-of-y) i) ∷ (rest .theirs ∙ ap (λ (s : Record). heardBy step answer s bs) (sym (c .same-record))) i;
+          its = rest .its ∙ c .answer-of-x;
         }
 
-    -- calls with their answers, in another order
-    abbrev Pairs : List (C × A) → List (C × A) → Type 0
-    Pairs = Reordered (λ p q. Apart (p .0) (q .0))
+    -- the first call of the one session stands in the other behind some, or none, from which it is apart; the rest is in a permitted order
+    module _ (r : Record) (x : C) (xs front back : List C) (g : Good r) (p : Permitted Apart (x ∷ xs) (front ++ x ∷ back)) where
+      once : NoneTwice (front ++ back) × (Has (front ++ back) x → ⊥)
+      once = once-less front back x (p .each-once .1)
 
-    alike : {r : Record} {xs ys : List C} → runBy step r xs ≡ runBy step r ys → Pairs (heardBy step answer r xs) (heardBy step answer r ys) → SameBy step answer Apart r xs ys
-    alike e w = record { same-end = e; same-answers = w; each-heard = λ x a. same-members (λ p q. Apart (p .0) (q .0)) w (x, a) }
+      -- what stands there besides x stood there besides x
+      others : (z : C) → Has (front ++ back) z → Has xs z
+      others z h = elim (p .same-calls z .1 (has-more front back x z h)) [ inl e ↦ absurd (once .1 (subst (Has (front ++ back)) (sym e) h)) | inr k ↦ k ]
 
-    in-order : {xs ys : List C} (r : Record) → Good r → Reordered Apart xs ys → SameBy step answer Apart r xs ys
-    in-order r g none = alike refl none
-    in-order r g (put {xs} x before behind e rest) =
-        let b = behind-them r x before g e in
-        let s = in-order (step r x) (k .stays r x g) rest in
-        let theirs = heardBy step answer (step r x) before in
-        let later = heardBy step answer (runBy step (step r x) before) behind in
-        let both : Pairs ((x, answer r x) ∷ heardBy step answer (step r x) xs) (theirs ++ (x, answer r x) ∷ later)
-        = put (x, answer r x) theirs later (each-heard (Apart x) (step r x) before e) (subst (Pairs (heardBy step answer (step r x) xs)) (heard-append (step r x) before behind) (s .same-answers)) in
-        alike
-        (s .same-end ∙ run-append (step r x) before behind ∙ ap (λ (a : Record). runBy step a behind) (sym (b .same-record)) ∙ sym (run-append r before (x ∷ behind)))
-        (subst (Pairs ((x, answer r x) ∷ heardBy step answer (step r x) xs)) (seam b) both)
-      where
-        seam : SentBehind r x before → (heardBy step answer (step r x) before ++ (x, answer r x) ∷ heardBy step answer (runBy step (step r x) before) behind) ≡ heardBy step answer r (before ++ x ∷ behind)
-        seam b = sym (heard-append r before (x ∷ behind) ∙ (λ i. b .theirs i ++ (x, b .its i) ∷ heardBy step answer (b .same-record i) behind))
+      kept : (z : C) → Has xs z → Has (front ++ back) z
+      kept z h = elim (has-less front back x z (p .same-calls z .0 (inr h))) [ inl e ↦ absurd (p .each-once .0 .0 (subst (Has xs) (sym e) h)) | inr k ↦ k ]
 
-  pub reordered : (Apart : C → C → Type 0) (Good : Record → Type 0) → MayBeReorderedBy step answer Apart Good
-  reordered Apart Good k r xs ys g w = in-order Apart Good k r g w
+      passed : (z : C) → Has front z → Apart x z
+      passed z h = p .change-places x z (inl (refl, others z (has-front front back z h))) (before-it front back x z h)
+
+      the-rest : Permitted Apart xs (front ++ back)
+      the-rest = record {
+        each-once = (p .each-once .0 .1, once .0);
+        same-calls = λ z. (kept z, others z);
+        change-places = λ y z b c. p .change-places y z (inr b) (before-more front back x z y c);
+      }
+
+      behind : SentBehind r x front
+      behind = behind-them r x front g passed
+
+      -- what is heard of the others, before x and behind it
+      abbrev theirs : List (C × A)
+      theirs = heardBy step answer (step r x) front
+
+      abbrev later : List (C × A)
+      later = heardBy step answer (runBy step (step r x) front) back
+
+      seam : heardBy step answer r (front ++ x ∷ back) ≡ (theirs ++ (x, answer r x) ∷ later)
+      seam = heard-append r front (x ∷ back) ∙ (λ i. behind .theirs i ++ (x, behind .its i) ∷ heardBy step answer (behind .same-record i) back)
+
+      placed : AlikeBy step answer (step r x) xs (front ++ back) → AlikeBy step answer r (x ∷ xs) (front ++ x ∷ back)
+      placed s = record {
+        same-end = s .same-end ∙ run-append (step r x) front back ∙ ap (λ (a : Record). runBy step a back) (sym (behind .same-record)) ∙ sym (run-append r front (x ∷ back));
+        same-answers = λ y a. (forth (y, a), back-again (y, a));
+      }
+        where
+          forth : (q : C × A) → Has ((x, answer r x) ∷ heardBy step answer (step r x) xs) q → Has (heardBy step answer r (front ++ x ∷ back)) q
+          forth q (inl e) = rw seam (subst (Has (theirs ++ (x, answer r x) ∷ later)) e (has-it theirs later (x, answer r x)))
+          forth q (inr h) = rw seam (has-more theirs later (x, answer r x) q (rw (heard-append (step r x) front back) at (s .same-answers (q .0) (q .1) .0 h)))
+
+          back-again : (q : C × A) → Has (heardBy step answer r (front ++ x ∷ back)) q → Has ((x, answer r x) ∷ heardBy step answer (step r x) xs) q
+          back-again q h = elim (has-less theirs later (x, answer r x) q (rw seam at h)) [
+            | inl e ↦ inl e
+            | inr k ↦ inr (s .same-answers (q .0) (q .1) .1 (rw (heard-append (step r x) front back) k))
+          ]
+
+    in-order : (xs ys : List C) (r : Record) → Good r → Permitted Apart xs ys → AlikeBy step answer r xs ys
+    in-order [] [] r g p = record { same-end = refl; same-answers = λ x a. ((λ h. h), λ h. h) }
+    in-order [] (y ∷ ys) r g p = absurd (p .same-calls y .1 (inl refl))
+    in-order (x ∷ xs) ys r g p =
+        let a = found ys x (p .same-calls x .0 (inl refl)) in
+        let q = subst (Permitted Apart (x ∷ xs)) (a .split) p in
+        subst (AlikeBy step answer r (x ∷ xs)) (sym (a .split))
+        (placed r x xs (a .front) (a .back) g q (in-order xs (a .front ++ a .back) (step r x) (k .stays r x g) (the-rest r x xs (a .front) (a .back) g q)))
+
+  pub may-be-reordered : (Apart : C → C → Type 0) (Good : Record → Type 0) → MayBeReordered step answer Apart Good
+  may-be-reordered Apart Good k r xs ys g p = in-order Apart Good k xs ys r g p

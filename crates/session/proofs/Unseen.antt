@@ -32,7 +32,7 @@ use Rattle.line.specs.Line.{lineRead}
 use Rattle.frame.specs.Frame.{addressIn, bodyIn, bodyRead}
 use Rattle.roads.specs.Acknowledgements.{textReply, frameReply}
 use Rattle.roads.specs.Calls.{said, parsedAt, textResult, answerText, placeBy, textPlace, zoneFound, holder, frameResult, answerFrame}
-use Rattle.roads.specs.Rules.{RefusesAlike}
+use Rattle.roads.specs.Rules.{JudgesAlike}
 use Rattle.roads.proofs.Local.{text-rows, frame-rows}
 use Rattle.session.specs.Sessions.{text, frame, composeLine, composeFrame, Quiet, add, remove, report, apply, chooseSource, setpointInUse, book, ship, merge, repair, Call, inRoom, quiet, answerTo, after, resultOf, run}
 use Rattle.session.specs.Sources.{quietOfSource, ofSource, struck, otherAnswers, Alike, SourcesAreUnseen}
@@ -136,19 +136,18 @@ module _ {r r′ : Record} (a : Alike r r′) where
 
   -- ---- call by call
 
-  -- what was read is refused alike at the zone that it goes to
-  refuses-alike : (n : ℕ) (p : Parsed) → RefusesAlike r r′ n p
-  refuses-alike n p = record { both-sound = same-sound a; there = same-there a n; rows = same-rows n (λ z. parsedAt z p) (parsed-blind p) }
+  judges-alike : (n : ℕ) → JudgesAlike (zoneAt r n) (zoneAt r′ n)
+  judges-alike n = record { present = of-zone a (λ z. z .present) (λ z. refl) n; range = of-zone a (λ z. z .range) (λ z. refl) n; state = of-zone a (λ z. z .status .state) (λ z. refl) n }
 
   text-seen : (n : ℕ) (line room : List ℕ) → Seen (textResult r n line room) (textResult r′ n line room)
-  text-seen n line room = let p = lineRead line in stored-seen n (λ z. parsedAt z p) (parsed-blind p) _ _ (text-rows r r′ n line room (refuses-alike n p))
+  text-seen n line room = let p = lineRead line in stored-seen n (λ z. parsedAt z p) (parsed-blind p) _ _ (text-rows r r′ n line room (same-sound a) (judges-alike n))
 
   frame-seen : (bytes room : List ℕ) → Seen (frameResult r bytes room) (frameResult r′ bytes room)
   frame-seen bytes room =
       let p = bodyRead (bodyIn bytes) in
       let n = zoneFound (holder r bytes) in
       let e = same-found a (addressIn bytes) in
-      rw (← e) (stored-seen n (λ z. parsedAt z p) (parsed-blind p) _ _ (rw (← e) at (frame-rows r r′ bytes room e (refuses-alike n p))))
+      rw (← e) (stored-seen n (λ z. parsedAt z p) (parsed-blind p) _ _ (rw (← e) at (frame-rows r r′ bytes room (same-sound a) e (judges-alike n))))
 
   -- a merging looks at the kilograms of two zones, and sets these and no source
   merge-seen : (n m : ℕ) → Seen (resultOf r (merge n m)) (resultOf r′ (merge n m))

@@ -7,14 +7,13 @@ use mathlib.Core.Bool.{true, false, cond}
 use mathlib.Core.List.{List, [], _∷_}
 use lib.ListN.{length}
 use Rattle.zone.specs.declared.figures.Group.the-variants.{Hzbg}
-use Rattle.zone.specs.declared.figures.Figures.{Figures}
 use Rattle.zone.specs.Lists.{isZero, total}
 use Rattle.zone.specs.Zones.{emptyZone, figuresOf}
 use Rattle.card.specs.declared.records.Record.{Record}
 use Rattle.card.specs.Records.{emptyRecord, zoneAt, sound}
 use Rattle.card.specs.Rules.{Folds}
 use Rattle.roads.specs.Calls.{said}
-use Rattle.session.specs.Sessions.{Quiet, add, remove, report, apply, chooseSource, setpointInUse, book, ship, merge, repair, Call, inRoom, quiet, answerTo, after, Done, run, Throughout}
+use Rattle.session.specs.Sessions.{Quiet, add, remove, report, apply, chooseSource, setpointInUse, book, ship, merge, repair, Call, inRoom, quiet, answerTo, after, Done, run, answersOf, Throughout}
 use Rattle.session.specs.Changes.{Merges, Rebooks, NotAdded}
 use Rattle.session.specs.Demands.{refusedSilently, later, PointsAt, Present, OtherRoad, Rerouted, Gone}
 
@@ -122,11 +121,6 @@ pub record NotRebooked (n : ℕ) (r : Record) (call : Call) : Type 0 where
 -- all else leaves the kilograms alone: a write, whichever way it comes, a report, a choice of the source, a repair, an addition and a removal too. `left-alone`, in proofs/Bookings.antt
 abbrev pub LeftAlone : Type 0
 LeftAlone = (r : Record) (n : ℕ) (calls : List Call) → Throughout (NotRebooked n) r calls → kilogramsOn (run r calls) n ≡ kilogramsOn r n
-
--- the numbers and the figures that a session's calls are answered, one after the other
-abbrev pub answersOf : Record → List Call → List (ℕ × List Figures)
-answersOf r [] = []
-answersOf r (call ∷ calls) = (answerTo r call .said .number, answerTo r call .said .values) ∷ answersOf (after r call) calls
 
 -- "Demand 3 stands between these calls too": in sessions that differ in roads alone each call gets the same number and figures, so the same is booked and shipped; and the record at the end is the same (SameEnd), kilograms included. `by-either-road`, in proofs/Bookings.antt
 pub record SameBookings (r : Record) (xs ys : List Call) : Type 0 where

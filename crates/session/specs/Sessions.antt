@@ -2,6 +2,7 @@
 use Prim.Native.Nat.{ℕ}
 use mathlib.Core.Path.{_≡_}
 use mathlib.Core.List.{List, [], _∷_}
+use Rattle.zone.specs.declared.figures.Figures.{Figures}
 use Rattle.zone.specs.declared.figures.Command.{Command}
 use Rattle.zone.specs.declared.sources.Source.{Source}
 use Rattle.card.specs.declared.records.Record.{Record}
@@ -71,6 +72,16 @@ runBy step r (call ∷ calls) = runBy step (step r call) calls
 
 abbrev pub run : Record → List Call → Record
 run r calls = runBy after r calls
+
+-- the calls of a session, each with its answer at the record of its step; for any kinds of calls, where step is what a call does to the record and answer what is answered
+abbrev pub heardBy : {C A : Type 0} → (Record → C → Record) → (Record → C → A) → Record → List C → List (C × A)
+heardBy step answer r [] = []
+heardBy step answer r (call ∷ calls) = (call, answer r call) ∷ heardBy step answer (step r call) calls
+
+-- the numbers and the figures that a session's calls are answered, one after the other
+abbrev pub answersOf : Record → List Call → List (ℕ × List Figures)
+answersOf r [] = []
+answersOf r (call ∷ calls) = (answerTo r call .said .number, answerTo r call .said .values) ∷ answersOf (after r call) calls
 
 -- what holds of each call of a session, at the record of its step
 abbrev pub Throughout : (Record → Call → Type 0) → Record → List Call → Type 0
