@@ -11,6 +11,7 @@ pub mod Sources
 pub mod Unseen
 pub mod Totals
 pub mod Bookings
+pub mod Inputs
 pub mod Standing
 pub mod Reordered
 pub mod Order

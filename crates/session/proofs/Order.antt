@@ -1,8 +1,8 @@
 -- Which inputs of the two roads may change places (document 02, Req 10), from what each keeps and sets. Assumes nothing.
 use Prim.Native.Nat.{ℕ}
 use mathlib.Core.Path.{_≡_, refl, sym, ap, _∙_, subst}
-use mathlib.Core.Logic.{_⊎_, inl, inr}
-use mathlib.Core.Bool.{Bool, true, false, not, _&&_, _||_}
+use mathlib.Core.Logic.{inl, inr}
+use mathlib.Core.Bool.{false, not, _&&_, _||_}
 use mathlib.Core.List.{List, [], _∷_, map}
 use native.Mathlib.Omega.{arith}
 use lib.Dec.{leb, eqb}
@@ -21,7 +21,7 @@ use Rattle.zone.proofs.Tests.{never}
 use Rattle.zone.proofs.Written.{sets-figures}
 use Rattle.zone.proofs.Order.{groups-commute, last-stands}
 use Rattle.card.specs.declared.records.Record.{Record}
-use Rattle.card.specs.Records.{zoneAt, withZone, sound, findOf, noZone}
+use Rattle.card.specs.Records.{zoneAt, withZone, sound, noZone}
 use Rattle.card.specs.Calls.{applyOf}
 use Rattle.card.proofs.Found.{find-alike}
 use Rattle.card.proofs.Sets.{stored-there, write-after, read-alters-nothing}
@@ -34,7 +34,7 @@ use Rattle.roads.proofs.Local.{text-local, frame-local}
 use Rattle.session.specs.Sessions.{Done}
 use Rattle.session.specs.Demands.{Present}
 use Rattle.session.specs.Inputs.{Input, on-port, on-pair, sent, next, Heard, heard}
-use Rattle.session.specs.Order.{requestIn, inputRead, IsWrite, IsRead, goesTo, OneGroup, Commute, WritesCommute, NowhereCommutes, RefusedCommutes, TheLastStands, Has, SameZones, ZonesStay, WritesInAnyOrder, InTheWay, both-write, write-read, read-write, OthersCommute, InAnyOrder, AsAtFirst}
+use Rattle.session.specs.Order.{requestIn, inputRead, IsWrite, IsRead, goesTo, SameGroupOfOneZone, Commute, WritesCommute, NowhereCommutes, RefusedCommutes, TheLastStands, Has, SameZones, ZonesStay, WritesInAnyOrder, InTheWay, both-write, write-read, read-write, OthersCommute, InAnyOrder, AsAtFirst}
 use Rattle.session.proofs.Answering.{record-kept, by-done}
 use Rattle.session.proofs.Done.{line-is-done, frame-is-done}
 use Rattle.session.proofs.Changes.{by-zone, text-after, frame-after, after-of}
@@ -67,7 +67,7 @@ does r (on-pair bytes room) d =
       done = ap (λ (n : ℕ). applyOf r n (w .command) .number) (sym e) ∙ w .came .done;
     }
 
--- the command that was read
+-- what was read is one command
 known-one : {c d : Command} → Known c ≡ Known d → c ≡ d
 known-one e = cc
 
@@ -152,7 +152,7 @@ kept-whole r x m e = record {
   others = λ g u. ap (λ (z : Zone). figuresOf z g) e;
 }
 
--- of the zone that is written what the write leaves, by what it sets
+-- the zone that is written keeps all but the group that is set
 kept-besides : (r : Record) (x : Input) (f : Figures) → Stores r x f → SetsFigures (zoneAt r (goesTo r x)) f (zoneAt (next r x) (goesTo r x)) → Keeps r x (goesTo r x)
 kept-besides r x f s k = record {
   head = k .head;
@@ -192,17 +192,17 @@ goes-alike : {r s : Record} → SameZones r s → (x : Input) → goesTo s x ≡
 goes-alike same (on-port n line room) = refl
 goes-alike same (on-pair bytes room) = ap zoneFound (same .held (addressIn bytes))
 
-one-group-first : {r s : Record} → SameZones r s → {x y : Input} {g h : Group} → OneGroup s x y g h → OneGroup r x y g h
-one-group-first {r} {s} same {x} {y} o = record {
+same-group-at-start : {r s : Record} → SameZones r s → {x y : Input} {g h : Group} → SameGroupOfOneZone s x y g h → SameGroupOfOneZone r x y g h
+same-group-at-start {r} {s} same {x} {y} o = record {
   zone = sym (goes-alike same x) ∙ o .zone ∙ goes-alike same y;
   there = sym (same .there (goesTo r x)) ∙ ap (noZone s) (sym (goes-alike same x)) ∙ o .there;
   group = o .group;
 }
 
-in-the-way-first : {r s : Record} → SameZones r s → {x y : Input} → InTheWay s x y → InTheWay r x y
-in-the-way-first same (both-write f g p q o) = both-write f g p q (one-group-first same o)
-in-the-way-first same (write-read f h p q o) = write-read f h p q (one-group-first same o)
-in-the-way-first same (read-write h g p q o) = read-write h g p q (one-group-first same o)
+in-the-way-at-start : {r s : Record} → SameZones r s → {x y : Input} → InTheWay s x y → InTheWay r x y
+in-the-way-at-start same (both-write f g p q o) = both-write f g p q (same-group-at-start same o)
+in-the-way-at-start same (write-read f h p q o) = write-read f h p q (same-group-at-start same o)
+in-the-way-at-start same (read-write h g p q o) = read-write h g p q (same-group-at-start same o)
 
 -- ---- what is heard of an input behind another
 
@@ -210,11 +210,11 @@ in-the-way-first same (read-write h g p q o) = read-write h g p q (one-group-fir
 abbrev Unread : Record → Input → Input → Type 0
 Unread r x y = (h : Group) → IsRead x h → WritesTo r y (goesTo r x) h → ⊥
 
-module _ (r : Record) (y : Input) where
-  -- a done frame whose body is a read is read as one
-  frame-reads : (bytes room : List ℕ) (h : Group) → Done r (sent (on-pair bytes room)) → bodyRead (bodyIn bytes) ≡ Known (Read h) → IsRead (on-pair bytes room) h
-  frame-reads bytes room h d q = let w = frame-is-done r bytes room d .reads in ap requestIn w ∙ right-sum bytes _ _ w .3 ∙ q
+-- a done frame whose body is a read is read as one
+done-frame-reads : (r : Record) (bytes room : List ℕ) (h : Group) → Done r (sent (on-pair bytes room)) → bodyRead (bodyIn bytes) ≡ Known (Read h) → IsRead (on-pair bytes room) h
+done-frame-reads r bytes room h d q = let w = frame-is-done r bytes room d .reads in ap requestIn w ∙ right-sum bytes _ _ w .3 ∙ q
 
+module _ (r : Record) (y : Input) where
   same-heard : (x : Input) → (Done r (sent x) → Unread r x y) → heard (next r y) x ≡ heard r x
   same-heard (on-port n line room) u =
       let alike = text-local r (next r y) n line room (same-sound r y) (judges-alike r y n) (λ d h q. sym (keeps r y n .others h (u d h q))) in
@@ -222,7 +222,7 @@ module _ (r : Record) (y : Input) where
   same-heard (on-pair bytes room) u =
       let n = goesTo r (on-pair bytes room) in
       let alike = frame-local r (next r y) bytes room (same-sound r y) (λ s. (sym (zones-stay r y .held (addressIn bytes)), judges-alike r y n))
-      (λ d h q. sym (keeps r y n .others h (u d h (frame-reads bytes room h d q)))) in
+      (λ d h q. sym (keeps r y n .others h (u d h (done-frame-reads r bytes room h d q)))) in
       sym (λ i. record { said = alike i; place = 0 })
 
 -- what was done in one place is done in the other
@@ -293,7 +293,7 @@ others-commute r x y apart = record { same-record = by-effects (effect r x) (eff
 -- ---- the two rules
 
 -- two writes are in each other's way in one group of one zone alone
-pub writes-in-the-way : {r : Record} {x y : Input} {f g : Figures} → IsWrite x f → IsWrite y g → InTheWay r x y → OneGroup r x y (groupOf f) (groupOf g)
+writes-in-the-way : {r : Record} {x y : Input} {f g : Figures} → IsWrite x f → IsWrite y g → InTheWay r x y → SameGroupOfOneZone r x y (groupOf f) (groupOf g)
 writes-in-the-way p q (both-write f g p′ q′ o) = record { zone = o .zone; there = o .there; group = ap groupOf (write-one (sym p ∙ p′)) ∙ o .group ∙ ap groupOf (write-one (sym q′ ∙ q)) }
 writes-in-the-way p q (write-read f h p′ q′ o) = absurd (read-or-write (sym q′ ∙ q))
 writes-in-the-way p q (read-write h g p′ q′ o) = absurd (read-or-write (sym p′ ∙ p))
@@ -349,7 +349,7 @@ stays-same : (r s : Record) (y : Input) → SameZones r s → SameZones r (next 
 stays-same r s y same = let k = zones-stay s y in record { there = λ n. k .there n ∙ same .there n; held = λ address. k .held address ∙ same .held address }
 
 commute-later : (r s : Record) (x y : Input) → SameZones r s → (InTheWay r x y → ⊥) → Commute s x y
-commute-later r s x y same apart = others-commute s x y (λ w. apart (in-the-way-first same w))
+commute-later r s x y same apart = others-commute s x y (λ w. apart (in-the-way-at-start same w))
 
 pub in-any-order : InAnyOrder
 in-any-order r xs ys p =
@@ -372,10 +372,10 @@ writes-in-any-order r xs ys all p =
           p .change-places x y b c (f .0) (g .0) (f .1) (g .1) (writes-in-the-way (f .1) (g .1) w);
     })
 
--- an input that is no read is heard behind another as before it
 abbrev NoReads : List Input → Type 0
 NoReads xs = (x : Input) → Has xs x → (group : Group) → IsRead x group → ⊥
 
+-- inputs that are no reads are heard behind another as before it
 heard-behind : (r : Record) (y : Input) (xs : List Input) → NoReads xs → map {B = Input × Heard} (λ x. (x, heard (next r y) x)) xs ≡ map (λ x. (x, heard r x)) xs
 heard-behind r y [] u = refl
 heard-behind r y (x ∷ xs) u = λ i. (x, same-heard r y x (λ d h q w. u x (inl refl) h q) i) ∷ heard-behind r y xs (λ z k. u z (inr k)) i

@@ -1,19 +1,11 @@
 -- A session put in a permitted order, once for calls of any kinds: where two that change places commute it ends alike, and each call is answered the same. Assumes nothing.
 use mathlib.Core.Path.{_≡_, refl, sym, ap, _∙_, subst}
-use mathlib.Core.Logic.{_⊎_, inl, inr}
+use mathlib.Core.Logic.{inl, inr}
 use mathlib.Core.List.{List, [], _∷_, _++_}
 use Rattle.card.specs.declared.records.Record.{Record}
-use Rattle.roads.specs.Calls.{Said}
-use Rattle.session.specs.Sessions.{Call, answerTo, after, runBy, heardBy}
-use Rattle.session.specs.Inputs.{SentAsCalls}
-use Rattle.session.specs.Order.{Has, Before, NoneTwice, Permitted, AlikeBy, CommuteWhereApart, MayBeReordered}
+use Rattle.session.specs.Sessions.{runBy, heardBy}
+use Rattle.session.specs.Order.{Has, NoneTwice, Permitted, AlikeBy, CommuteWhereApart, MayBeReordered}
 use Rattle.session.proofs.Standing.{has-more, has-less, has-it, has-front, before-more, before-it, once-less, found}
-
-pub sent-as-calls : {C : Type 0} (call : C → Call) → SentAsCalls call
-sent-as-calls call r [] = record { same-end = refl; same-answers = refl }
-sent-as-calls call r (x ∷ xs) =
-    let rest = sent-as-calls call (after r (call x)) xs in
-    record { same-end = rest .same-end; same-answers = ap (λ (l : List Said). answerTo r (call x) .said ∷ l) (rest .same-answers) }
 
 module _ {C A : Type 0} (step : Record → C → Record) (answer : Record → C → A) where
   run-append : (r : Record) (bs cs : List C) → runBy step r (bs ++ cs) ≡ runBy step (runBy step r bs) cs
@@ -27,20 +19,20 @@ module _ {C A : Type 0} (step : Record → C → Record) (answer : Record → C 
   -- call x, sent behind others: the record is that of x sent first, and all of them are answered the same
   record SentBehind (r : Record) (x : C) (front : List C) : Type 0 where
     same-record : step (runBy step r front) x ≡ runBy step (step r x) front
-    theirs : heardBy step answer r front ≡ heardBy step answer (step r x) front
-    its : answer (runBy step r front) x ≡ answer r x
+    others-heard : heardBy step answer r front ≡ heardBy step answer (step r x) front
+    answered : answer (runBy step r front) x ≡ answer r x
 
   module _ (Apart : C → C → Type 0) (Good : Record → Type 0) (k : CommuteWhereApart step answer Apart Good) where
     -- by exchanges of neighbours
     behind-them : (r : Record) (x : C) (front : List C) → Good r → ((z : C) → Has front z → Apart x z) → SentBehind r x front
-    behind-them r x [] g e = record { same-record = refl; theirs = refl; its = refl }
+    behind-them r x [] g e = record { same-record = refl; others-heard = refl; answered = refl }
     behind-them r x (b ∷ bs) g e =
         let c = k .commute r x b g (e b (inl refl)) in
         let rest = behind-them (step r b) x bs (k .stays r b g) (λ z h. e z (inr h)) in
         record {
           same-record = rest .same-record ∙ ap (λ (s : Record). runBy step s bs) (sym (c .same-record));
-          theirs = λ i. (b, sym (c .answer-of-y) i) ∷ (rest .theirs ∙ ap (λ (s : Record). heardBy step answer s bs) (sym (c .same-record))) i;
-          its = rest .its ∙ c .answer-of-x;
+          others-heard = λ i. (b, sym (c .answer-of-y) i) ∷ (rest .others-heard ∙ ap (λ (s : Record). heardBy step answer s bs) (sym (c .same-record))) i;
+          answered = rest .answered ∙ c .answer-of-x;
         }
 
     -- the first call of the one session stands in the other behind some, or none, from which it is apart; the rest is in a permitted order
@@ -48,7 +40,7 @@ module _ {C A : Type 0} (step : Record → C → Record) (answer : Record → C 
       once : NoneTwice (front ++ back) × (Has (front ++ back) x → ⊥)
       once = once-less front back x (p .each-once .1)
 
-      -- what stands there besides x stood there besides x
+      -- what stands in the other session besides x stands behind x in the one, and (kept) the other way round
       others : (z : C) → Has (front ++ back) z → Has xs z
       others z h = elim (p .same-calls z .1 (has-more front back x z h)) [ inl e ↦ absurd (once .1 (subst (Has (front ++ back)) (sym e) h)) | inr k ↦ k ]
 
@@ -68,7 +60,7 @@ module _ {C A : Type 0} (step : Record → C → Record) (answer : Record → C 
       behind : SentBehind r x front
       behind = behind-them r x front g passed
 
-      -- what is heard of the others, before x and behind it
+      -- what is heard in the other session before x, and behind it
       abbrev theirs : List (C × A)
       theirs = heardBy step answer (step r x) front
 
@@ -76,7 +68,7 @@ module _ {C A : Type 0} (step : Record → C → Record) (answer : Record → C 
       later = heardBy step answer (runBy step (step r x) front) back
 
       seam : heardBy step answer r (front ++ x ∷ back) ≡ (theirs ++ (x, answer r x) ∷ later)
-      seam = heard-append r front (x ∷ back) ∙ (λ i. behind .theirs i ++ (x, behind .its i) ∷ heardBy step answer (behind .same-record i) back)
+      seam = heard-append r front (x ∷ back) ∙ (λ i. behind .others-heard i ++ (x, behind .answered i) ∷ heardBy step answer (behind .same-record i) back)
 
       placed : AlikeBy step answer (step r x) xs (front ++ back) → AlikeBy step answer r (x ∷ xs) (front ++ x ∷ back)
       placed s = record {

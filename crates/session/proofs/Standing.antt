@@ -52,11 +52,11 @@ module _ {C : Type 0} where
 
   -- ---- where something stands
 
-  pub record At (l : List C) (x : C) : Type 0 where
+  pub record Stands (l : List C) (x : C) : Type 0 where
     pub front : List C
     pub back : List C
     pub split : l ≡ front ++ x ∷ back
 
-  pub found : (l : List C) (x : C) → Has l x → At l x
+  pub found : (l : List C) (x : C) → Has l x → Stands l x
   found (z ∷ zs) x (inl e) = record { front = []; back = zs; split = ap (λ (y : C). y ∷ zs) e }
   found (z ∷ zs) x (inr h) = let a = found zs x h in record { front = z ∷ a .front; back = a .back; split = ap (λ (l : List C). z ∷ l) (a .split) }

@@ -1,7 +1,7 @@
 -- A session: calls of every kind, each starting from the record that the one before handed back.
 use Prim.Native.Nat.{ℕ}
 use mathlib.Core.Path.{_≡_}
-use mathlib.Core.List.{List, [], _∷_}
+use mathlib.Core.List.{List, [], _∷_, map}
 use Rattle.zone.specs.declared.figures.Figures.{Figures}
 use Rattle.zone.specs.declared.figures.Command.{Command}
 use Rattle.zone.specs.declared.sources.Source.{Source}
@@ -73,15 +73,17 @@ runBy step r (call ∷ calls) = runBy step (step r call) calls
 abbrev pub run : Record → List Call → Record
 run r calls = runBy after r calls
 
--- the calls of a session, each with its answer at the record of its step; for any kinds of calls, where step is what a call does to the record and answer what is answered
+-- the calls of a session, each with its answer at the record of its step: for any kinds of calls, where step is what a call does to the record and answer what is answered; and the answers alone
 abbrev pub heardBy : {C A : Type 0} → (Record → C → Record) → (Record → C → A) → Record → List C → List (C × A)
 heardBy step answer r [] = []
 heardBy step answer r (call ∷ calls) = (call, answer r call) ∷ heardBy step answer (step r call) calls
 
+abbrev pub answersBy : {C A : Type 0} → (Record → C → Record) → (Record → C → A) → Record → List C → List A
+answersBy step answer r calls = map (λ p. p .1) (heardBy step answer r calls)
+
 -- the numbers and the figures that a session's calls are answered, one after the other
 abbrev pub answersOf : Record → List Call → List (ℕ × List Figures)
-answersOf r [] = []
-answersOf r (call ∷ calls) = (answerTo r call .said .number, answerTo r call .said .values) ∷ answersOf (after r call) calls
+answersOf r calls = answersBy after (λ s call. (answerTo s call .said .number, answerTo s call .said .values)) r calls
 
 -- what holds of each call of a session, at the record of its step
 abbrev pub Throughout : (Record → Call → Type 0) → Record → List Call → Type 0

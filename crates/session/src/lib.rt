@@ -1,5 +1,7 @@
 // What holds of every session: the buyer's three demands, and what requests say of sessions, as
 // theorems over the calls. There is no code here.
 //
-// specs/Sessions.antt says what a session is, specs/Demands.antt what is demanded, specs/Sources.antt
-// what is said of sources and specs/Bookings.antt what of bookings; proofs/ has a file for each demand.
+// specs/Sessions.antt says what a session is, specs/Changes.antt what calls do to zones,
+// specs/Demands.antt what is demanded, specs/Sources.antt what is said of sources, specs/Bookings.antt
+// what of bookings, and specs/Order.antt, over specs/Inputs.antt, what of the order of sending. Above
+// each statement stands the file of its proof.

@@ -1,4 +1,5 @@
 -- Two writes to one zone: to different groups, in either order; to one group, the last (document 02, Req 10). Assumes nothing.
+-- By cases, each computed from what a write leaves: so the laws stand without what else is said of a write, and refuse by themselves what would break them.
 use mathlib.Core.Path.{_≡_, refl, sym, ap, _∙_}
 use mathlib.Core.Bool.{false}
 use lib.Dec.{eqb}

@@ -74,10 +74,11 @@ SoundAsBefore = (z : Zone) → ((window : WindowFigures) → Shut z window → �
 abbrev pub RoundedDown : Type 0
 RoundedDown = (millivolts range : ℕ) → (byVoltage millivolts range * 10000 ≤ millivolts * range) × (millivolts * range < (byVoltage millivolts range + 1) * 10000)
 
--- "Two writes .. to different groups of one zone, must give the same record .. in either order" (document 02, Req 10): of the zone, where both are done, so that withFigures is what they leave. `groups-commute`, in proofs/Order.antt
+-- What document 02's Req 10 says of one zone; what a done write leaves is withFigures.
+-- "Two writes .. to different groups of one zone, must give the same record .. in either order". `groups-commute`, in proofs/Order.antt
 abbrev pub GroupsCommute : Type 0
 GroupsCommute = (z : Zone) (f g : Figures) → (groupOf f ≡ groupOf g → ⊥) → withFigures (withFigures z f) g ≡ withFigures (withFigures z g) f
 
--- "where two writes go to the same group of one zone and the second is done, the record is that of the second alone": of the zone, where the first is done too, which leaves no trace. `last-stands`, in proofs/Order.antt
+-- "where two writes go to the same group of one zone and the second is done, the record is that of the second alone": a first one that was done leaves no trace. `last-stands`, in proofs/Order.antt
 abbrev pub LastStands : Type 0
 LastStands = (z : Zone) (f g : Figures) → groupOf f ≡ groupOf g → withFigures (withFigures z f) g ≡ withFigures z g
