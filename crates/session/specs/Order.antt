@@ -142,7 +142,7 @@ pub record SameZones (r r′ : Record) : Type 0 where
 abbrev pub ZonesStay : Type 0
 ZonesStay = (r : Record) (x : Input) → SameZones r (next r x)
 
--- Permitted asks that nothing stands twice; so each input bears a number, any one, and the same bytes sent twice are two
+-- Permitted asks that nothing stands twice; so each input bears a number, and what is sent twice bears two
 abbrev pub Numbered : Type 0
 Numbered = Input × ℕ
 
