@@ -8,7 +8,7 @@ use Rattle.zone.specs.declared.zones.Zone.{Zone}
 use Rattle.zone.specs.Lists.{every}
 use Rattle.zone.proofs.Tests.{both}
 use Rattle.card.specs.declared.records.Record.{Record}
-use Rattle.card.specs.Records.{heldIn, differ, findFrom}
+use Rattle.card.specs.Records.{heldIn, differ}
 use Rattle.card.proofs.Storing.{SoundBy}
 
 abbrev pub mapped : (Zone → Zone) → Record → Record
@@ -29,11 +29,6 @@ module _ (f : Zone → Zone) (present : (z : Zone) → f z .present ≡ z .prese
   pub held-mapped : (zs : List Zone) (a : ℕ) → heldIn (map f zs) a ≡ heldIn zs a
   held-mapped [] a = refl
   held-mapped (z ∷ zs) a = rw (present z, address z, held-mapped zs a)
-
-  pub find-mapped : (k : ℕ) (zs : List Zone) (a : ℕ) → findFrom k (map f zs) a ≡ findFrom k zs a
-  unfolding findFrom
-  find-mapped k [] a = refl
-  find-mapped k (z ∷ zs) a = rw (present z, address z, find-mapped (suc k) zs a)
 
   differ-mapped : (zs : List Zone) → differ (map f zs) ≡ differ zs
   unfolding differ

@@ -151,7 +151,7 @@ becomes r (quiet repair) n = by-done r (quiet repair) (repair-becomes r n) (λ u
 -- ---- what is done is set
 
 -- the command that came by a road is the one that was read
-command-is : {c d : Command} → Known c ≡ Known d → c ≡ d
+pub command-is : {c d : Command} → Known c ≡ Known d → c ≡ d
 command-is e = cc
 
 applied-sets : {o : Result Record} (r : Record) (n : ℕ) (c : Command) (f : Figures) → Applied o r n c → c ≡ Write f → SetsFigures (zoneAt r n) f (zoneAt (o .after) n)

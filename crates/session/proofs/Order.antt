@@ -37,7 +37,7 @@ use Rattle.session.specs.Inputs.{Input, on-port, on-pair, sent, next, He
 use Rattle.session.specs.Order.{requestIn, inputRead, IsWrite, IsRead, goesTo, SameGroupOfOneZone, Commute, WritesCommute, NowhereCommutes, RefusedCommutes, TheLastStands, Has, SameZones, ZonesStay, WritesInAnyOrder, InTheWay, both-write, write-read, read-write, OthersCommute, InAnyOrder, AsAtFirst}
 use Rattle.session.proofs.Answering.{record-kept, by-done}
 use Rattle.session.proofs.Done.{line-is-done, frame-is-done}
-use Rattle.session.proofs.Changes.{by-zone, text-after, frame-after, after-of}
+use Rattle.session.proofs.Changes.{by-zone, text-after, frame-after, after-of, command-is}
 use Rattle.session.proofs.Demand3.{stays-sound}
 use Rattle.session.proofs.Standing.{has-former, has-latter}
 use Rattle.session.proofs.Reordered.{may-be-reordered}
@@ -67,10 +67,7 @@ does r (on-pair bytes room) d =
       done = ap (λ (n : ℕ). applyOf r n (w .command) .number) (sym e) ∙ w .came .done;
     }
 
--- what was read is one command
-known-one : {c d : Command} → Known c ≡ Known d → c ≡ d
-known-one e = cc
-
+-- what was read is one command, and no other
 write-one : {f g : Figures} → Known (Write f) ≡ Known (Write g) → f ≡ g
 write-one e = cc
 
@@ -92,7 +89,7 @@ stores-there r x f s = does r x (s .done) .present
 stores-left : (r : Record) (x : Input) (f : Figures) → Stores r x f → next r x ≡ storedBy r (goesTo r x) f
 stores-left r x f s =
     let w = does r x (s .done) in
-    let c : w .command ≡ Write f = known-one (sym (w .reads-as) ∙ s .is-write) in
+    let c : w .command ≡ Write f = command-is (sym (w .reads-as) ∙ s .is-write) in
     w .left ∙ ap (λ (c : Command). applyOf r (goesTo r x) c .after) c ∙ write-after r (goesTo r x) f (ap (λ (c : Command). applyOf r (goesTo r x) c .number) (sym c) ∙ w .done)
 
 stored-zone : (r : Record) (x : Input) (f : Figures) → Stores r x f → zoneAt (next r x) (goesTo r x) ≡ withFigures (zoneAt r (goesTo r x)) f
@@ -225,23 +222,20 @@ module _ (r : Record) (y : Input) where
       (λ d h q. sym (keeps r y n .others h (u d h (done-frame-reads r bytes room h d q)))) in
       sym (λ i. record { said = alike i; place = 0 })
 
--- what was done in one place is done in the other
-same-done : (r : Record) (x y : Input) → heard (next r y) x ≡ heard r x → Done (next r y) (sent x) → Done r (sent x)
-same-done r x y e d = ap (λ (h : Heard). h .said .number) (sym e) ∙ d
-
-done-too : (r : Record) (x y : Input) → heard (next r y) x ≡ heard r x → Done r (sent x) → Done (next r y) (sent x)
-done-too r x y e d = ap (λ (h : Heard). h .said .number) e ∙ d
+-- an input of which the same is heard in two places is done in both or in neither
+done-alike : (r s : Record) (x : Input) → heard s x ≡ heard r x → Done r (sent x) → Done s (sent x)
+done-alike r s x e d = ap (λ (h : Heard). h .said .number) e ∙ d
 
 -- ---- two of them
 
 -- what stores nothing stores nothing behind another either, and leaves what that leaves
 idle-behind : (r : Record) (x y : Input) → heard (next r y) x ≡ heard r x → Idle r x → next (next r y) x ≡ next r y
-idle-behind r x y e u = idle-kept (next r y) x (λ f s. u f (record { is-write = s .is-write; done = same-done r x y e (s .done) }))
+idle-behind r x y e u = idle-kept (next r y) x (λ f s. u f (record { is-write = s .is-write; done = done-alike (next r y) r x (sym e) (s .done) }))
 
 -- and what stores figures stores them behind another too, in the same zone
 stores-behind : (r : Record) (x y : Input) (f : Figures) → heard (next r y) x ≡ heard r x → Stores r x f → next (next r y) x ≡ storedBy (next r y) (goesTo r x) f
 stores-behind r x y f e s =
-    stores-left (next r y) x f (record { is-write = s .is-write; done = done-too r x y e (s .done) }) ∙ ap (λ (n : ℕ). storedBy (next r y) n f) (goes-alike (zones-stay r y) x)
+    stores-left (next r y) x f (record { is-write = s .is-write; done = done-alike r (next r y) x e (s .done) }) ∙ ap (λ (n : ℕ). storedBy (next r y) n f) (goes-alike (zones-stay r y) x)
 
 -- two stored in one zone: the record with that zone, written twice
 twice : (r : Record) (x y : Input) (f g : Figures) → heard (next r x) y ≡ heard r y → Stores r x f → Stores r y g → goesTo r x ≡ goesTo r y
@@ -330,7 +324,7 @@ the-last-stands r x y f g p q o d = by-effect (effect r x)
     second = same-heard r x y (λ d h e. absurd (read-or-write (sym e ∙ q)))
 
     stored : Stores r y g
-    stored = record { is-write = q; done = same-done r y x second d }
+    stored = record { is-write = q; done = done-alike (next r x) r y (sym second) d }
 
     by-effect : Effect r x → (next (next r x) y ≡ next r y) × (heard (next r x) y ≡ heard r y)
     by-effect (idle u) = (ap (λ (s : Record). next s y) (idle-kept r x u), second)

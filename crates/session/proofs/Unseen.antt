@@ -6,6 +6,7 @@ use mathlib.Core.List.{List, [], _∷_, map}
 use lib.ListN.{set, length-map, List·getD-map}
 use lib.Seq.{ext-getD, map-set-same}
 use lib.Dec.{leb, eqb}
+use Rattle.zone.specs.declared.figures.Group.{Group}
 use Rattle.zone.specs.declared.figures.Figures.{Figures}
 use Rattle.zone.specs.declared.figures.Figures.the-variants.{AhueDeadline, AhueWindow, HzbgLimit, RrueReference, SolwSetpoint}
 use Rattle.zone.specs.declared.figures.Command.{Command}
@@ -14,7 +15,7 @@ use Rattle.zone.specs.declared.sources.Source.{Source}
 use Rattle.zone.specs.declared.zones.Zone.{Zone}
 use Rattle.zone.specs.Lists.{isZero}
 use Rattle.zone.specs.Sources.{newOrigin}
-use Rattle.zone.specs.Zones.{emptyZone, addressInRange, rangeKnown, bookingInRange, withFigures, withOrigin, withKilograms}
+use Rattle.zone.specs.Zones.{emptyZone, holds, figuresOf, addressInRange, rangeKnown, bookingInRange, withFigures, withOrigin, withKilograms}
 use Rattle.zone.proofs.Tests.{never}
 use Rattle.zone.proofs.Written.{same-groups}
 use Rattle.card.specs.declared.records.Record.{Record}
@@ -23,17 +24,17 @@ use Rattle.card.specs.Refusals.{Row, _gives_, first, settled}
 use Rattle.card.specs.Records.{zoneAt, withZone, heldIn, sound, findOf, noZone}
 use Rattle.card.specs.Calls.{Judgement, zoneRows, atZone, addAt, addOf, removeAt, removeOf, reportAt, reportOf, commandAt, applyOf, chooseSourceAt, chooseSourceOf, bookAt, bookOf, shipAt, shipOf, together, mergeRows, merged, mergeOf, Repair}
 use Rattle.card.proofs.Storing.{sound-parts}
-use Rattle.card.proofs.Mapped.{mapped, mapped-set, held-mapped, find-mapped}
+use Rattle.card.proofs.Found.{find-alike}
+use Rattle.card.proofs.Mapped.{mapped, mapped-set, held-mapped}
 use Rattle.card.proofs.Sets.{setpoint-in-use-alters-nothing}
 use Rattle.card.proofs.Repairs.{repair-of-sound}
 use Rattle.wire.specs.declared.Parsed.{Parsed}
 use Rattle.wire.specs.declared.Parsed.the-variants.{Known, Unknown, Syntax}
 use Rattle.line.specs.Line.{lineRead}
 use Rattle.frame.specs.Frame.{addressIn, bodyIn, bodyRead}
-use Rattle.roads.specs.Acknowledgements.{textReply, frameReply}
-use Rattle.roads.specs.Calls.{said, parsedAt, textResult, answerText, placeBy, textPlace, zoneFound, holder, frameResult, answerFrame}
+use Rattle.roads.specs.Calls.{said, parsedAt, textResult, answerText, textPlace, zoneFound, holder, frameResult, answerFrame}
 use Rattle.roads.specs.Rules.{JudgesAlike}
-use Rattle.roads.proofs.Local.{text-rows, frame-rows}
+use Rattle.roads.proofs.Local.{text-rows, frame-rows, text-local, frame-local}
 use Rattle.session.specs.Sessions.{text, frame, composeLine, composeFrame, Quiet, add, remove, report, apply, chooseSource, setpointInUse, book, ship, merge, repair, Call, inRoom, quiet, answerTo, after, resultOf, run}
 use Rattle.session.specs.Sources.{quietOfSource, ofSource, struck, otherAnswers, Alike, SourcesAreUnseen}
 use Rattle.session.proofs.Demand3.{stays-sound}
@@ -72,7 +73,7 @@ module _ {r r′ : Record} (a : Alike r r′) where
   same-held address = of-record (λ x. heldIn (x .zones) address) (λ x. held-mapped plain (λ z. refl) (λ z. refl) (x .zones) address)
 
   same-found : (address : ℕ) → findOf r address ≡ findOf r′ address
-  same-found address = of-record (λ x. findOf x address) (λ x. find-mapped plain (λ z. refl) (λ z. refl) 0 (x .zones) address)
+  same-found address = find-alike r r′ address (of-zone (holds address) (λ z. refl))
 
 -- ---- judgements that do not look at the source
 
@@ -136,6 +137,9 @@ module _ {r r′ : Record} (a : Alike r r′) where
 
   -- ---- call by call
 
+  same-figures : (n : ℕ) (g : Group) → figuresOf (zoneAt r n) g ≡ figuresOf (zoneAt r′ n) g
+  same-figures n g = of-zone a (λ z. figuresOf z g) (λ z. same-groups (plain z) z refl refl g) n
+
   judges-alike : (n : ℕ) → JudgesAlike (zoneAt r n) (zoneAt r′ n)
   judges-alike n = record { present = of-zone a (λ z. z .present) (λ z. refl) n; range = of-zone a (λ z. z .range) (λ z. refl) n; state = of-zone a (λ z. z .status .state) (λ z. refl) n }
 
@@ -148,6 +152,15 @@ module _ {r r′ : Record} (a : Alike r r′) where
       let n = zoneFound (holder r bytes) in
       let e = same-found a (addressIn bytes) in
       rw (← e) (stored-seen n (λ z. parsedAt z p) (parsed-blind p) _ _ (rw (← e) at (frame-rows r r′ bytes room (same-sound a) e (judges-alike n))))
+
+  -- what a line is answered, and its place
+  text-answered : (n : ℕ) (line room : List ℕ) → (answerText r n line room .said ≡ answerText r′ n line room .said) × (textPlace r n line room ≡ textPlace r′ n line room)
+  text-answered n line room = text-local r r′ n line room (same-sound a) (judges-alike n) (λ d g q. same-figures n g)
+
+  frame-answered : (bytes room : List ℕ) → answerFrame r bytes room .said ≡ answerFrame r′ bytes room .said
+  frame-answered bytes room =
+      let n = zoneFound (holder r bytes) in
+      frame-local r r′ bytes room (same-sound a) (λ s. (same-found a (addressIn bytes), judges-alike n)) (λ d g q. same-figures n g)
 
   -- a merging looks at the kilograms of two zones, and sets these and no source
   merge-seen : (n m : ℕ) → Seen (resultOf r (merge n m)) (resultOf r′ (merge n m))
@@ -202,21 +215,13 @@ module _ {r r′ : Record} (a : Alike r r′) where
   -- what is answered is the same, and what is left of the records
   answer-seen : (call : Call) → ofSource call ≡ false → (answerTo r call .said ≡ answerTo r′ call .said) × (mapped plain (after r call) ≡ mapped plain (after r′ call))
   unfolding answerText answerFrame
-  answer-seen (inRoom (text n line) room) e =
-      let k = text-seen n line room in
-      (λ i. said (k .number i) (k .values i) (textReply (k .number i) (k .values i)) room, k .left)
-  answer-seen (inRoom (frame bytes) room) e =
-      let k = frame-seen bytes room in
-      (λ i. said (k .number i) (k .values i) (frameReply (addressIn bytes) (k .number i) (k .values i)) room, k .left)
+  answer-seen (inRoom (text n line) room) e = (text-answered n line room .0, text-seen n line room .left)
+  answer-seen (inRoom (frame bytes) room) e = (frame-answered bytes room, frame-seen bytes room .left)
   answer-seen (inRoom (composeLine c) room) e = (refl, alike-mapped r r′ a)
   answer-seen (inRoom (composeFrame address c) room) e = (refl, alike-mapped r r′ a)
   answer-seen (quiet call) e =
       let k = quiet-seen call e in
       (λ i. said (k .number i) (k .values i) [] [], k .left)
-
-  same-place : (n : ℕ) (line room : List ℕ) → textPlace r n line room ≡ textPlace r′ n line room
-  unfolding textPlace
-  same-place n line room = λ i. placeBy (answer-seen (inRoom (text n line) room) refl .0 i .number) (a .zones n i .range) line
 
 -- one call, whole
 pub one-unseen : (r r′ : Record) (call : Call) → Alike r r′ → ofSource call ≡ false → (answerTo r call .said ≡ answerTo r′ call .said) × Alike (after r call) (after r′ call)
@@ -276,4 +281,4 @@ through r r′ (call ∷ calls) a = by-kind (ofSource call) refl (λ x x′ b. t
 pub unseen : SourcesAreUnseen
 unseen r r′ calls a =
     let k = through r r′ calls a in
-    record { answers = k .answers; left = k .left; place = same-place (k .left) }
+    record { answers = k .answers; left = k .left; place = λ n line room. text-answered (k .left) n line room .1 }
