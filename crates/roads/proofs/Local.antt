@@ -3,8 +3,9 @@ use Prim.Native.Nat.{ℕ}
 use mathlib.Core.Path.{_≡_, refl, sym, ap, _∙_}
 use mathlib.Core.Bool.{Bool, true, false, cond, not, _||_}
 use mathlib.Core.List.{List, [], _∷_}
+use native.Mathlib.Omega.{arith}
 use lib.Dec.{leb}
-use borrow.Author.Tests.{eqb-true}
+use borrow.Author.Tests.{eqb-true, ne-eqb}
 use Rattle.zone.specs.declared.figures.Group.{Group}
 use Rattle.zone.specs.declared.figures.Figures.{Figures}
 use Rattle.zone.specs.declared.figures.Command.the-variants.{Read, Write}
@@ -90,22 +91,25 @@ text-local r r′ n line room s j v =
 
 pub frame-local : FrameHangsOnItsZone
 unfolding answerFrame
-frame-local r r′ bytes room s j v = by-shape (shaped bytes) refl
+frame-local r r′ bytes room s j v = by-tests (sound r) (shaped bytes) refl refl
   where
-    -- no frame: nothing is told
-    silent : (t u : Bool) (values : List Figures) → cond (isZero (cond t 1 (cond u 2 4))) values [] ≡ []
-    silent true u values = refl
-    silent false true values = refl
-    silent false false values = refl
+    -- a record that is not sound, or no frame: the number hangs on room and soundness alone, and nothing is told
+    silent : (number : ℕ) (t : Bool) (values : List Figures) → (number ≡ 0 → ⊥) → cond (isZero (cond t 1 number)) values [] ≡ []
+    silent number true values u = refl
+    silent number false values u = rw (ne-eqb number 0 u)
 
-    by-shape : (t : Bool) → shaped bytes ≡ t → answerFrame r bytes room .said ≡ answerFrame r′ bytes room .said
-    by-shape false q =
-        frame-said (addressIn bytes) room (frameResult r bytes room) (frameResult r′ bytes room)
-        (rw q (ap (λ (t : Bool). cond (tooSmall room) 1 (cond (not t) 2 4)) s))
-        (rw q (silent (tooSmall room) (not (sound r)) _ ∙ sym (silent (tooSmall room) (not (sound r′)) _)))
-    by-shape true q =
+    refused : (number : ℕ) → (number ≡ 0 → ⊥) → first (frameRows r bytes room) ≡ cond (tooSmall room) 1 number → first (frameRows r′ bytes room) ≡ cond (tooSmall room) 1 number
+        → answerFrame r bytes room .said ≡ answerFrame r′ bytes room .said
+    refused number u e e′ =
+        frame-said (addressIn bytes) room (frameResult r bytes room) (frameResult r′ bytes room) (e ∙ sym e′)
+        (rw (e, e′) (silent number (tooSmall room) _ u ∙ sym (silent number (tooSmall room) _ u)))
+
+    by-tests : (t u : Bool) → sound r ≡ t → shaped bytes ≡ u → answerFrame r bytes room .said ≡ answerFrame r′ bytes room .said
+    by-tests false u p q = refused 2 (λ e. omega arith) (rw p) (rw (sym s ∙ p))
+    by-tests true false p q = refused 4 (λ e. omega arith) (rw (p, q)) (rw (sym s ∙ p, q))
+    by-tests true true p q =
         let n = zoneFound (holder r bytes) in
-        let e = j q .0 in
-        let rows = frame-rows r r′ bytes room s e (j q .1) in
+        let e = j p q .0 in
+        let rows = frame-rows r r′ bytes room s e (j p q .1) in
         frame-said (addressIn bytes) room (frameResult r bytes room) (frameResult r′ bytes room) (ap first rows)
         (told-alike _ _ _ _ rows (λ z. rw (← e) (decided-values (zoneAt r n) (zoneAt r′ n) (bodyRead (bodyIn bytes)) (v z))))

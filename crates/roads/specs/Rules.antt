@@ -30,7 +30,7 @@ abbrev pub FrameApplies : Type 0
 FrameApplies = (r : Record) (n : ℕ) (command : Command) (room : List ℕ) → sound r ≡ true → zoneAt r n .present ≡ true → 32 ≤ length room → carriesCommand frameRoad command ≡ true
     → frameResult r (frameOf (zoneAt r n .address) command) room ≡ applyOf r n command
 
--- ---- what an answer hangs on, for document 02's Req 10
+-- ---- what an answer hangs on, for document 02's Req 10 and Req 12
 
 -- two zones that judge every line and every frame alike: both are there or neither is, with the same temperature range and in the same state
 pub record JudgesAlike (z z′ : Zone) : Type 0 where
@@ -45,11 +45,11 @@ LineHangsOnItsZone = (r r′ : Record) (n : ℕ) (line room : List ℕ) → soun
     → (answerText r n line room .said .number ≡ 0 → (group : Group) → lineRead line ≡ Known (Read group) → figuresOf (zoneAt r n) group ≡ figuresOf (zoneAt r′ n) group)
     → (answerText r n line room .said ≡ answerText r′ n line room .said) × (textPlace r n line room ≡ textPlace r′ n line room)
 
--- A frame's answer hangs on who holds its address, and on the same of that zone; where nobody does zone 16 stands for it, which is none of the sixteen. Bytes that are no frame have no address, and no zone is asked for them.
+-- A frame's answer hangs on whether the record is sound and, where it is, on who holds its address, and on the same of that zone; where nobody does zone 16 stands for it, which is none of the sixteen. Bytes that are no frame have no address, and no zone is asked for them.
 -- `frame-local`, in proofs/Local.antt
 abbrev pub FrameHangsOnItsZone : Type 0
 FrameHangsOnItsZone = (r r′ : Record) (bytes room : List ℕ) → sound r ≡ sound r′
-    → (shaped bytes ≡ true → (holder r bytes ≡ holder r′ bytes) × JudgesAlike (zoneAt r (zoneFound (holder r bytes))) (zoneAt r′ (zoneFound (holder r bytes))))
+    → (sound r ≡ true → shaped bytes ≡ true → (holder r bytes ≡ holder r′ bytes) × JudgesAlike (zoneAt r (zoneFound (holder r bytes))) (zoneAt r′ (zoneFound (holder r bytes))))
     → (answerFrame r bytes room .said .number ≡ 0 → (group : Group) → bodyRead (bodyIn bytes) ≡ Known (Read group)
     → figuresOf (zoneAt r (zoneFound (holder r bytes))) group ≡ figuresOf (zoneAt r′ (zoneFound (holder r bytes))) group)
     → answerFrame r bytes room .said ≡ answerFrame r′ bytes room .said

@@ -7,6 +7,7 @@ pub mod Demand2
 pub mod Lasting
 pub mod Useless
 pub mod Unsound
+pub mod Struck
 pub mod Sources
 pub mod Unseen
 pub mod Totals
@@ -15,4 +16,5 @@ pub mod Inputs
 pub mod Standing
 pub mod Reordered
 pub mod Order
+pub mod Neighbours
 pub mod Worked

@@ -75,44 +75,47 @@ read-or-write : {g : Group} {f : Figures} → Known (Read g) ≡ Known (Write f)
 read-or-write e = let z : _≡_ {A = ℕ} 0 1 = cc in omega arith
 
 -- it is a write, and done
-record Stores (r : Record) (x : Input) (f : Figures) : Type 0 where
-  is-write : IsWrite x f
-  done : Done r (sent x)
+pub record Stores (r : Record) (x : Input) (f : Figures) : Type 0 where
+  pub is-write : IsWrite x f
+  pub done : Done r (sent x)
 
 -- what it leaves: the record with the figures set in the zone that it goes to
 abbrev storedBy : Record → ℕ → Figures → Record
 storedBy r n f = withZone r n (withFigures (zoneAt r n) f)
 
-stores-there : (r : Record) (x : Input) (f : Figures) → Stores r x f → Present r (goesTo r x)
+pub stores-there : (r : Record) (x : Input) (f : Figures) → Stores r x f → Present r (goesTo r x)
 stores-there r x f s = does r x (s .done) .present
 
-stores-left : (r : Record) (x : Input) (f : Figures) → Stores r x f → next r x ≡ storedBy r (goesTo r x) f
+pub stores-left : (r : Record) (x : Input) (f : Figures) → Stores r x f → next r x ≡ storedBy r (goesTo r x) f
 stores-left r x f s =
     let w = does r x (s .done) in
     let c : w .command ≡ Write f = command-is (sym (w .reads-as) ∙ s .is-write) in
     w .left ∙ ap (λ (c : Command). applyOf r (goesTo r x) c .after) c ∙ write-after r (goesTo r x) f (ap (λ (c : Command). applyOf r (goesTo r x) c .number) (sym c) ∙ w .done)
 
-stored-zone : (r : Record) (x : Input) (f : Figures) → Stores r x f → zoneAt (next r x) (goesTo r x) ≡ withFigures (zoneAt r (goesTo r x)) f
+pub stored-zone : (r : Record) (x : Input) (f : Figures) → Stores r x f → zoneAt (next r x) (goesTo r x) ≡ withFigures (zoneAt r (goesTo r x)) f
 stored-zone r x f s =
     let p = stores-there r x f s in
     ap (λ (s : Record). zoneAt s (goesTo r x)) (stores-left r x f s) ∙ stored-there r (goesTo r x) (withFigures (zoneAt r (goesTo r x)) f) (p .sound-record) (p .below)
 
+pub stored-elsewhere : (r : Record) (x : Input) (f : Figures) → Stores r x f → (m : ℕ) → (m ≡ goesTo r x → ⊥) → zoneAt (next r x) m ≡ zoneAt r m
+stored-elsewhere r x f s m u = ap (λ (s : Record). zoneAt s m) (stores-left r x f s) ∙ getD-set-other (r .zones) (goesTo r x) m (withFigures (zoneAt r (goesTo r x)) f) emptyZone u
+
 -- every other input leaves the record as it was: a refused one, and a read
-abbrev Idle : Record → Input → Type 0
+abbrev pub Idle : Record → Input → Type 0
 Idle r x = (f : Figures) → Stores r x f → ⊥
 
-idle-kept : (r : Record) (x : Input) → Idle r x → next r x ≡ r
+pub idle-kept : (r : Record) (x : Input) → Idle r x → next r x ≡ r
 idle-kept r x u = by-done r (sent x) (λ d. by-command d (does r x d) (does r x d .command) refl) (record-kept r (sent x))
   where
     by-command : Done r (sent x) → (w : Does r x) (c : Command) → w .command ≡ c → next r x ≡ r
     by-command d w (Read g) e = w .left ∙ ap (λ (c : Command). applyOf r (goesTo r x) c .after) e ∙ read-alters-nothing r (goesTo r x) g
     by-command d w (Write f) e = absurd (u f (record { is-write = w .reads-as ∙ ap Known e; done = d }))
 
-data Effect (r : Record) (x : Input) : Type 0 where
+pub data Effect (r : Record) (x : Input) : Type 0 where
   idle : Idle r x → Effect r x
   stores : (f : Figures) → Stores r x f → Effect r x
 
-effect : (r : Record) (x : Input) → Effect r x
+pub effect : (r : Record) (x : Input) → Effect r x
 effect r x = by-done r (sent x) (λ d. by-command (does r x d .command) (does r x d .reads-as) d) (λ u. idle (λ f s. u (s .done)))
   where
     by-command : (c : Command) → inputRead x ≡ Known c → Done r (sent x) → Effect r x
@@ -141,10 +144,13 @@ record Keeps (r : Record) (x : Input) (m : ℕ) : Type 0 where
   status : zoneAt (next r x) m .status ≡ zoneAt r m .status
   others : (g : Group) → (WritesTo r x m g → ⊥) → figuresOf (zoneAt (next r x) m) g ≡ figuresOf (zoneAt r m) g
 
+pub same-head : {z z′ : Zone} → z′ ≡ z → SameHead z z′
+same-head e = record { present = ap (λ (z : Zone). z .present) e; address = ap (λ (z : Zone). z .address) e; range = ap (λ (z : Zone). z .range) e }
+
 -- where the zone is the same all of it is
 kept-whole : (r : Record) (x : Input) (m : ℕ) → zoneAt (next r x) m ≡ zoneAt r m → Keeps r x m
 kept-whole r x m e = record {
-  head = record { present = ap (λ (z : Zone). z .present) e; address = ap (λ (z : Zone). z .address) e; range = ap (λ (z : Zone). z .range) e };
+  head = same-head e;
   status = ap (λ (z : Zone). z .status) e;
   others = λ g u. ap (λ (z : Zone). figuresOf z g) e;
 }
@@ -165,9 +171,12 @@ keeps r x m = by-effect (effect r x)
     by-effect (stores f s) =
         by-zone m (goesTo r x)
         (λ e. subst (Keeps r x) (sym e) (kept-besides r x f s (rw (stored-zone r x f s) (sets-figures (zoneAt r (goesTo r x)) f))))
-        (λ u. kept-whole r x m (ap (λ (s : Record). zoneAt s m) (stores-left r x f s) ∙ getD-set-other (r .zones) (goesTo r x) m (withFigures (zoneAt r (goesTo r x)) f) emptyZone u))
+        (λ u. kept-whole r x m (stored-elsewhere r x f s m u))
 
-same-sound : (r : Record) (x : Input) → sound r ≡ sound (next r x)
+pub head-stays : (r : Record) (x : Input) (m : ℕ) → SameHead (zoneAt r m) (zoneAt (next r x) m)
+head-stays r x m = keeps r x m .head
+
+pub same-sound : (r : Record) (x : Input) → sound r ≡ sound (next r x)
 same-sound r x = by-effect (effect r x)
   where
     by-effect : Effect r x → sound r ≡ sound (next r x)
@@ -176,8 +185,8 @@ same-sound r x = by-effect (effect r x)
 
 pub zones-stay : ZonesStay
 zones-stay r x = record {
-  there = λ n i. leb 16 n || not (keeps r x n .head .present i);
-  held = λ address. find-alike (next r x) r address (λ m. let k = keeps r x m .head in λ i. k .present i && eqb (k .address i) address);
+  there = λ n i. leb 16 n || not (head-stays r x n .present i);
+  held = λ address. find-alike (next r x) r address (λ m. let k = head-stays r x m in λ i. k .present i && eqb (k .address i) address);
 }
 
 judges-alike : (r : Record) (x : Input) (m : ℕ) → JudgesAlike (zoneAt r m) (zoneAt (next r x) m)
@@ -218,24 +227,29 @@ module _ (r : Record) (y : Input) where
       sym (λ i. record { said = alike .0 i; place = alike .1 i })
   same-heard (on-pair bytes room) u =
       let n = goesTo r (on-pair bytes room) in
-      let alike = frame-local r (next r y) bytes room (same-sound r y) (λ s. (sym (zones-stay r y .held (addressIn bytes)), judges-alike r y n))
+      let alike = frame-local r (next r y) bytes room (same-sound r y) (λ p s. (sym (zones-stay r y .held (addressIn bytes)), judges-alike r y n))
       (λ d h q. sym (keeps r y n .others h (u d h (done-frame-reads r bytes room h d q)))) in
       sym (λ i. record { said = alike i; place = 0 })
 
--- an input of which the same is heard in two places is done in both or in neither
+-- ---- an input of which the same is heard at two records
+
+-- is done at both or at neither
 done-alike : (r s : Record) (x : Input) → heard s x ≡ heard r x → Done r (sent x) → Done s (sent x)
 done-alike r s x e d = ap (λ (h : Heard). h .said .number) e ∙ d
 
+-- what stores nothing at one stores nothing at the other either, and leaves it as it is
+pub idle-too : (r s : Record) (x : Input) → heard s x ≡ heard r x → Idle r x → next s x ≡ s
+idle-too r s x e u = idle-kept s x (λ f t. u f (record { is-write = t .is-write; done = done-alike s r x (sym e) (t .done) }))
+
+-- and what stores figures at one stores them at the other
+pub stores-too : (r s : Record) (x : Input) (f : Figures) → heard s x ≡ heard r x → Stores r x f → Stores s x f
+stores-too r s x f e t = record { is-write = t .is-write; done = done-alike r s x e (t .done) }
+
 -- ---- two of them
 
--- what stores nothing stores nothing behind another either, and leaves what that leaves
-idle-behind : (r : Record) (x y : Input) → heard (next r y) x ≡ heard r x → Idle r x → next (next r y) x ≡ next r y
-idle-behind r x y e u = idle-kept (next r y) x (λ f s. u f (record { is-write = s .is-write; done = done-alike (next r y) r x (sym e) (s .done) }))
-
--- and what stores figures stores them behind another too, in the same zone
+-- what stores figures stores them behind another in the same zone
 stores-behind : (r : Record) (x y : Input) (f : Figures) → heard (next r y) x ≡ heard r x → Stores r x f → next (next r y) x ≡ storedBy (next r y) (goesTo r x) f
-stores-behind r x y f e s =
-    stores-left (next r y) x f (record { is-write = s .is-write; done = done-alike r (next r y) x e (s .done) }) ∙ ap (λ (n : ℕ). storedBy (next r y) n f) (goes-alike (zones-stay r y) x)
+stores-behind r x y f e s = stores-left (next r y) x f (stores-too r (next r y) x f e s) ∙ ap (λ (n : ℕ). storedBy (next r y) n f) (goes-alike (zones-stay r y) x)
 
 -- two stored in one zone: the record with that zone, written twice
 twice : (r : Record) (x y : Input) (f g : Figures) → heard (next r x) y ≡ heard r y → Stores r x f → Stores r y g → goesTo r x ≡ goesTo r y
@@ -267,8 +281,8 @@ others-commute r x y apart = record { same-record = by-effects (effect r x) (eff
     second = same-heard r x y (λ d h q w. apart (write-read (w .figures) h (w .is-write) q (record { zone = w .zone; there = ap (noZone r) (w .zone) ∙ w .there; group = w .group })))
 
     by-effects : Effect r x → Effect r y → next (next r x) y ≡ next (next r y) x
-    by-effects (idle u) b = ap (λ (s : Record). next s y) (idle-kept r x u) ∙ sym (idle-behind r x y first u)
-    by-effects (stores f s) (idle v) = idle-behind r y x second v ∙ sym (ap (λ (s : Record). next s x) (idle-kept r y v))
+    by-effects (idle u) b = ap (λ (s : Record). next s y) (idle-kept r x u) ∙ sym (idle-too r (next r y) x first u)
+    by-effects (stores f s) (idle v) = idle-too r (next r x) y second v ∙ sym (ap (λ (s : Record). next s x) (idle-kept r y v))
     by-effects (stores f s) (stores g t) =
         let n = goesTo r x in
         let m = goesTo r y in
@@ -315,7 +329,7 @@ pub refused-commutes : RefusedCommutes
 refused-commutes r x y u =
     let kept = record-kept r (sent x) u in
     let first = same-heard r y x (λ d. absurd (u d)) in
-    record { same-record = ap (λ (s : Record). next s y) kept ∙ sym (idle-behind r x y first (λ f s. u (s .done))); answer-of-x = first; answer-of-y = ap (λ (s : Record). heard s y) kept }
+    record { same-record = ap (λ (s : Record). next s y) kept ∙ sym (idle-too r (next r y) x first (λ f s. u (s .done))); answer-of-x = first; answer-of-y = ap (λ (s : Record). heard s y) kept }
 
 pub the-last-stands : TheLastStands
 the-last-stands r x y f g p q o d = by-effect (effect r x)

@@ -32,12 +32,13 @@ use Rattle.wire.specs.declared.Parsed.{Parsed}
 use Rattle.wire.specs.declared.Parsed.the-variants.{Known, Unknown, Syntax}
 use Rattle.line.specs.Line.{lineRead}
 use Rattle.frame.specs.Frame.{addressIn, bodyIn, bodyRead}
-use Rattle.roads.specs.Calls.{said, parsedAt, textResult, answerText, textPlace, zoneFound, holder, frameResult, answerFrame}
+use Rattle.roads.specs.Calls.{Said, said, parsedAt, textResult, answerText, textPlace, zoneFound, holder, frameResult, answerFrame}
 use Rattle.roads.specs.Rules.{JudgesAlike}
 use Rattle.roads.proofs.Local.{text-rows, frame-rows, text-local, frame-local}
-use Rattle.session.specs.Sessions.{text, frame, composeLine, composeFrame, Quiet, add, remove, report, apply, chooseSource, setpointInUse, book, ship, merge, repair, Call, inRoom, quiet, answerTo, after, resultOf, run}
-use Rattle.session.specs.Sources.{quietOfSource, ofSource, struck, otherAnswers, Alike, SourcesAreUnseen}
+use Rattle.session.specs.Sessions.{text, frame, composeLine, composeFrame, Quiet, add, remove, report, apply, chooseSource, setpointInUse, book, ship, merge, repair, Call, inRoom, quiet, answerTo, after, resultOf, run, heardBy, heardBesides}
+use Rattle.session.specs.Sources.{quietOfSource, ofSource, struck, Alike, SourcesAreUnseen}
 use Rattle.session.proofs.Demand3.{stays-sound}
+use Rattle.session.proofs.Struck.{may-be-struck, strike-again}
 
 -- ---- what does not look at the sources is the same of records that are alike
 
@@ -160,7 +161,7 @@ module _ {r r′ : Record} (a : Alike r r′) where
   frame-answered : (bytes room : List ℕ) → answerFrame r bytes room .said ≡ answerFrame r′ bytes room .said
   frame-answered bytes room =
       let n = zoneFound (holder r bytes) in
-      frame-local r r′ bytes room (same-sound a) (λ s. (same-found a (addressIn bytes), judges-alike n)) (λ d g q. same-figures n g)
+      frame-local r r′ bytes room (same-sound a) (λ p s. (same-found a (addressIn bytes), judges-alike n)) (λ d g q. same-figures n g)
 
   -- a merging looks at the kilograms of two zones, and sets these and no source
   merge-seen : (n m : ℕ) → Seen (resultOf r (merge n m)) (resultOf r′ (merge n m))
@@ -261,24 +262,17 @@ one-source r r′ call a e =
 
 -- ---- whole sessions
 
-record Through (r r′ : Record) (calls others : List Call) : Type 0 where
-  answers : otherAnswers r calls ≡ otherAnswers r′ others
-  left : Alike (run r calls) (run r′ others)
+abbrev saidTo : Record → Call → Said
+saidTo r call = answerTo r call .said
 
-through : (r r′ : Record) (calls : List Call) → Alike r r′ → Through r r′ calls (struck calls)
-through r r′ [] a = record { answers = refl; left = a }
-through r r′ (call ∷ calls) a = by-kind (ofSource call) refl (λ x x′ b. through x x′ calls b)
-  where
-    by-kind : (t : Bool) → ofSource call ≡ t → ((x x′ : Record) → Alike x x′ → Through x x′ calls (struck calls)) → Through r r′ (call ∷ calls) (struck (call ∷ calls))
-    by-kind true e rest =
-        let k = rest (after r call) r′ (one-source r r′ call a e) in
-        rw e (record { answers = rw e (k .answers); left = k .left })
-    by-kind false e rest =
-        let same = one-unseen r r′ call a e in
-        let k = rest (after r call) (after r′ call) (same .1) in
-        rw e (record { answers = rw e (λ i. same .0 i ∷ k .answers i); left = k .left })
+module _ (r r′ : Record) (calls : List Call) (a : Alike r r′) where
+  through : (heardBesides ofSource after saidTo r calls ≡ heardBy after saidTo r′ (struck calls)) × Alike (run r calls) (run r′ (struck calls))
+  through = may-be-struck ofSource after saidTo Alike (record { struck = λ s s′ call. one-source s s′ call; stays = λ s s′ call. one-unseen s s′ call }) r r′ calls a
 
 pub unseen : SourcesAreUnseen
 unseen r r′ calls a =
     let k = through r r′ calls a in
-    record { answers = k .answers; left = k .left; place = λ n line room. text-answered (k .left) n line room .1 }
+    -- in what stays there is nothing more to strike out
+    let whole = through r′ r′ (struck calls) (record { zones = λ n. refl; sound-one = a .sound-other; sound-other = a .sound-other }) .0 in
+    let once = ap (heardBy after saidTo r′) (sym (strike-again ofSource ofSource calls (λ call e. e))) in
+    record { answers = ap (map (λ p. p .1)) (k .0 ∙ once ∙ sym whole); left = k .1; place = λ n line room. text-answered (k .1) n line room .1 }

@@ -6,3 +6,4 @@ pub mod Sources
 pub mod Bookings
 pub mod Inputs
 pub mod Order
+pub mod Neighbours

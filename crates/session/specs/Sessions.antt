@@ -1,6 +1,7 @@
 -- A session: calls of every kind, each starting from the record that the one before handed back.
 use Prim.Native.Nat.{ℕ}
 use mathlib.Core.Path.{_≡_}
+use mathlib.Core.Bool.{Bool, true, false, cond}
 use mathlib.Core.List.{List, [], _∷_, map}
 use Rattle.zone.specs.declared.figures.Figures.{Figures}
 use Rattle.zone.specs.declared.figures.Command.{Command}
@@ -89,3 +90,24 @@ answersOf r calls = answersBy after (λ s call. (answerTo s call .said .number, 
 abbrev pub Throughout : (Record → Call → Type 0) → Record → List Call → Type 0
 Throughout P r [] = Unit {0}
 Throughout P r (call ∷ calls) = P r call × Throughout P (after r call) calls
+
+-- ---- a session of which a part is struck out, for any kinds of calls
+
+-- strike out what the test names; the rest stays, in its order
+abbrev pub strike : {A : Type 0} → (A → Bool) → List A → List A
+strike out [] = []
+strike out (x ∷ xs) = cond (out x) (strike out xs) (x ∷ strike out xs)
+
+-- of a whole session the calls that would stay, each with its answer
+abbrev pub heardBesides : {C A : Type 0} → (C → Bool) → (Record → C → Record) → (Record → C → A) → Record → List C → List (C × A)
+heardBesides out step answer r calls = strike (λ p. out (p .0)) (heardBy step answer r calls)
+
+-- a call that is struck out is not missed: the record that it leaves and the one that it would have found are alike; any other is answered the same at two records that are alike, and leaves two that are. Alike says what such records have in common
+pub record NotMissed {C A : Type 0} (out : C → Bool) (step : Record → C → Record) (answer : Record → C → A) (Alike : Record → Record → Type 0) : Type 0 where
+  pub struck : (r r′ : Record) (x : C) → Alike r r′ → out x ≡ true → Alike (step r x) r′
+  pub stays : (r r′ : Record) (x : C) → Alike r r′ → out x ≡ false → (answer r x ≡ answer r′ x) × Alike (step r x) (step r′ x)
+
+-- then what stays is answered as in the whole session, call for call, and both end in records that are alike. `may-be-struck`, in proofs/Struck.antt
+abbrev pub MayBeStruck : {C A : Type 0} → (C → Bool) → (Record → C → Record) → (Record → C → A) → (Record → Record → Type 0) → Type 0
+MayBeStruck {C} out step answer Alike = NotMissed out step answer Alike → (r r′ : Record) (xs : List C) → Alike r r′
+    → (heardBesides out step answer r xs ≡ heardBy step answer r′ (strike out xs)) × Alike (runBy step r xs) (runBy step r′ (strike out xs))

@@ -3,7 +3,7 @@
 use Prim.Native.Nat.{ℕ, _≤_}
 use mathlib.Core.Path.{_≡_}
 use mathlib.Core.Bool.{Bool, true, false, cond}
-use mathlib.Core.List.{List, [], _∷_}
+use mathlib.Core.List.{List, [], map}
 use lib.ListN.{length}
 use Rattle.zone.specs.declared.figures.Group.the-variants.{Solw}
 use Rattle.zone.specs.declared.figures.Figures.the-variants.{SolwSetpoint}
@@ -19,7 +19,7 @@ use Rattle.card.specs.Calls.{setpointTold}
 use Rattle.line.specs.Line.{lineOf}
 use Rattle.frame.specs.Frame.{frameOf}
 use Rattle.roads.specs.Calls.{Said, said, answerText, textPlace, answerFrame}
-use Rattle.session.specs.Sessions.{Quiet, add, remove, report, apply, chooseSource, setpointInUse, book, ship, merge, repair, Call, inRoom, quiet, answerTo, after, Done, run, Throughout}
+use Rattle.session.specs.Sessions.{Quiet, add, remove, report, apply, chooseSource, setpointInUse, book, ship, merge, repair, Call, inRoom, quiet, answerTo, after, Done, run, Throughout, strike, heardBesides}
 use Rattle.session.specs.Changes.{Writes, Removes, Chooses, NotAdded}
 use Rattle.session.specs.Demands.{Present, later}
 
@@ -126,13 +126,11 @@ ofSource (quiet call) = quietOfSource call
 
 -- a session with these struck out
 abbrev pub struck : List Call → List Call
-struck [] = []
-struck (call ∷ calls) = cond (ofSource call) (struck calls) (call ∷ struck calls)
+struck calls = strike ofSource calls
 
 -- what is answered to all others of a session: numbers, figures, replies and rooms
 abbrev pub otherAnswers : Record → List Call → List Said
-otherAnswers r [] = []
-otherAnswers r (call ∷ calls) = cond (ofSource call) (otherAnswers (after r call) calls) (answerTo r call .said ∷ otherAnswers (after r call) calls)
+otherAnswers r calls = map (λ p. p .1) (heardBesides ofSource after (λ s call. answerTo s call .said) r calls)
 
 -- two sound records whose zones differ, if at all, in source and input alone
 pub record Alike (r r′ : Record) : Type 0 where
