@@ -1,10 +1,11 @@
--- What an answer of a road hangs on: soundness, and what decides at the zone that it goes to. Assumes nothing.
+-- What an answer of a road hangs on: soundness, and what decides at the zone that it goes to; and that no other zone is touched. Assumes nothing.
 use Prim.Native.Nat.{ℕ}
 use mathlib.Core.Path.{_≡_, refl, sym, ap, _∙_}
 use mathlib.Core.Bool.{Bool, true, false, cond, not, _||_}
 use mathlib.Core.List.{List, [], _∷_}
 use native.Mathlib.Omega.{arith}
 use lib.Dec.{leb}
+use lib.Seq.{getD-set-other}
 use borrow.Author.Tests.{eqb-true, ne-eqb}
 use Rattle.zone.specs.declared.figures.Group.{Group}
 use Rattle.zone.specs.declared.figures.Figures.{Figures}
@@ -12,18 +13,18 @@ use Rattle.zone.specs.declared.figures.Command.the-variants.{Read, Write}
 use Rattle.zone.specs.declared.zones.Zone.{Zone}
 use Rattle.zone.specs.Lists.{isZero}
 use Rattle.zone.specs.Figures.{groupOf, inRange}
-use Rattle.zone.specs.Zones.{figuresOf, locks}
+use Rattle.zone.specs.Zones.{emptyZone, figuresOf, locks}
 use Rattle.card.specs.declared.records.Record.{Record}
 use Rattle.card.specs.Answers.{Result}
 use Rattle.card.specs.Refusals.{Row, _gives_, first}
-use Rattle.card.specs.Records.{zoneAt, sound}
+use Rattle.card.specs.Records.{zoneAt, withZone, sound}
 use Rattle.wire.specs.declared.Parsed.{Parsed}
 use Rattle.wire.specs.declared.Parsed.the-variants.{Known, Unknown, Syntax}
 use Rattle.line.specs.Line.{lineRead}
 use Rattle.frame.specs.Frame.{shaped, bodyIn, addressIn, checksumRight, bodyRead}
 use Rattle.roads.specs.Acknowledgements.{textReply, frameReply}
 use Rattle.roads.specs.Calls.{said, tooSmall, isUnknown, isSyntax, parsedAt, textRows, textResult, inTextReply, answerText, placeBy, textPlace, isNowhere, zoneFound, holder, frameRows, frameResult, inFrameReply, answerFrame}
-use Rattle.roads.specs.Rules.{JudgesAlike, LineHangsOnItsZone, FrameHangsOnItsZone}
+use Rattle.roads.specs.Rules.{JudgesAlike, LineHangsOnItsZone, FrameHangsOnItsZone, LineTouchesItsZone, FrameTouchesItsZone}
 
 -- ---- what two zones decide
 
@@ -113,3 +114,18 @@ frame-local r r′ bytes room s j v = by-tests (sound r) (shaped bytes) refl ref
         let rows = frame-rows r r′ bytes room s e (j p q .1) in
         frame-said (addressIn bytes) room (frameResult r bytes room) (frameResult r′ bytes room) (ap first rows)
         (told-alike _ _ _ _ rows (λ z. rw (← e) (decided-values (zoneAt r n) (zoneAt r′ n) (bodyRead (bodyIn bytes)) (v z))))
+
+-- ---- what is left of the other zones
+
+-- what would be stored in zone n leaves zone m
+other-kept : (r : Record) (n m : ℕ) (z : Zone) (done : Bool) → (m ≡ n → ⊥) → zoneAt (cond done (withZone r n z) r) m ≡ zoneAt r m
+other-kept r n m z true u = getD-set-other (r .zones) n m z emptyZone u
+other-kept r n m z false u = refl
+
+pub text-touches : LineTouchesItsZone
+unfolding answerText
+text-touches r n line room m u = other-kept r n m _ (isZero (textResult r n line room .number)) u
+
+pub frame-touches : FrameTouchesItsZone
+unfolding answerFrame
+frame-touches r bytes room m u = other-kept r (zoneFound (holder r bytes)) m _ (isZero (frameResult r bytes room .number)) u

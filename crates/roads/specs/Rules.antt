@@ -54,6 +54,14 @@ FrameHangsOnItsZone = (r r′ : Record) (bytes room : List ℕ) → sound r ≡ 
     → figuresOf (zoneAt r (zoneFound (holder r bytes))) group ≡ figuresOf (zoneAt r′ (zoneFound (holder r bytes))) group)
     → answerFrame r bytes room .said ≡ answerFrame r′ bytes room .said
 
+-- and neither touches any other zone: a line none but that of its port, a frame none but the one that holds its address.
+-- `text-touches` and `frame-touches`, in proofs/Local.antt
+abbrev pub LineTouchesItsZone : Type 0
+LineTouchesItsZone = (r : Record) (n : ℕ) (line room : List ℕ) (m : ℕ) → (m ≡ n → ⊥) → zoneAt (answerText r n line room .after) m ≡ zoneAt r m
+
+abbrev pub FrameTouchesItsZone : Type 0
+FrameTouchesItsZone = (r : Record) (bytes room : List ℕ) (m : ℕ) → (m ≡ zoneFound (holder r bytes) → ⊥) → zoneAt (answerFrame r bytes room .after) m ≡ zoneAt r m
+
 -- ---- the place that an answer to a line carries (document 02, Req 04)
 
 -- what a number and a place say of the line that they answer

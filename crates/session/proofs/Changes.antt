@@ -1,11 +1,10 @@
 -- What a call does to a zone: nothing, or what a done write, report, removal, addition, choice of a source, booking, shipment, merging or repair sets. Assumes nothing.
 use Prim.Native.Nat.{ℕ, _+_, _-_}
 use mathlib.Core.Path.{_≡_, refl, sym, ap, _∙_, subst}
-use mathlib.Core.Bool.{Bool, true, false, cond}
+use mathlib.Core.Bool.{Bool, true, false}
 use mathlib.Core.List.{List}
 use native.Mathlib.Omega.{arith}
 use lib.Dec.{eqb}
-use lib.Seq.{getD-set-other}
 use borrow.Author.Tests.{eqb-true, eqb-false}
 use Rattle.zone.specs.declared.figures.Figures.{Figures}
 use Rattle.zone.specs.declared.figures.Figures.the-variants.{AhueWindow}
@@ -13,15 +12,13 @@ use Rattle.zone.specs.declared.figures.WindowFigures.{WindowFigures}
 use Rattle.zone.specs.declared.figures.Command.{Command}
 use Rattle.zone.specs.declared.figures.Command.the-variants.{Read, Write}
 use Rattle.zone.specs.declared.sources.Source.{Source}
-use Rattle.zone.specs.declared.zones.Zone.{Zone}
-use Rattle.zone.specs.Lists.{isZero}
 use Rattle.zone.specs.Zones.{newZone, emptyZone, stateNumbered, opened}
 use Rattle.zone.specs.Rules.{SetsFigures, SetsStatus, SetsOrigin, SetsKilograms}
 use Rattle.zone.proofs.Mended.{by-window, not-shut}
 use Rattle.card.specs.declared.records.Record.{Record}
 use Rattle.card.specs.Answers.{Result}
 use Rattle.card.specs.declared.records.Found.the-variants.{At}
-use Rattle.card.specs.Records.{zoneAt, withZone, findOf}
+use Rattle.card.specs.Records.{zoneAt, findOf}
 use Rattle.card.specs.Calls.{addOf, applyOf}
 use Rattle.card.proofs.Kept.{add-exactly, add-keeps, remove-keeps, report-keeps, apply-keeps, choose-source-keeps, book-keeps, ship-keeps}
 use Rattle.card.proofs.Found.{find-own}
@@ -32,7 +29,8 @@ use Rattle.wire.specs.declared.Parsed.the-variants.{Known}
 use Rattle.line.specs.Line.{lineRead}
 use Rattle.frame.specs.declared.reading.Framed.the-variants.{Request}
 use Rattle.frame.specs.Frame.{addressIn, frameRead}
-use Rattle.roads.specs.Calls.{textResult, answerText, frameResult, answerFrame}
+use Rattle.roads.specs.Calls.{textResult, answerText, zoneFound, frameResult, answerFrame}
+use Rattle.roads.proofs.Local.{text-touches, frame-touches}
 use Rattle.session.specs.Sessions.{text, frame, composeLine, composeFrame, add, remove, report, apply, chooseSource, setpointInUse, book, ship, merge, repair, Call, inRoom, quiet, after, Done}
 use Rattle.session.specs.Changes.{Writes, by-apply, by-line, by-frame, Reports, reported, merged, Removes, removed, merged-away, Adds, added, Chooses, chosen, Rebooks, booked, shipped, moved-in, Repairs, repaired, WhatIsDoneIsSet, Becomes, stays, written, was-reported, was-removed, was-added, was-chosen, was-rebooked, was-mended, EveryZoneBecomes}
 use Rattle.session.proofs.Answering.{record-kept, by-done}
@@ -60,16 +58,7 @@ by-command r after call m (Read group) e d w = stays (ap (λ (s : Record). zoneA
 by-command r after call m (Write figures) e d w =
     written figures (w figures refl) (write-at-zone r m figures d .present) (rw e (write-sets r m figures d))
 
--- ---- other zones, on the two roads
-
--- a call that would store another zone leaves this one
-other-kept : (r : Record) (k m : ℕ) (z : Zone) (done : Bool) → (k ≡ m → ⊥) → zoneAt (cond done (withZone r m z) r) k ≡ zoneAt r k
-other-kept r k m z true u = getD-set-other (r .zones) m k z emptyZone u
-other-kept r k m z false u = refl
-
-text-others : (r : Record) (n : ℕ) (line room : List ℕ) (k : ℕ) → (k ≡ n → ⊥) → zoneAt (answerText r n line room .after) k ≡ zoneAt r k
-unfolding answerText
-text-others r n line room k u = other-kept r k n _ (isZero (textResult r n line room .number)) u
+-- ---- each call
 
 pub frame-after : (r : Record) (bytes room : List ℕ) → answerFrame r bytes room .after ≡ frameResult r bytes room .after
 unfolding answerFrame
@@ -82,11 +71,9 @@ text-after r n line room = refl
 pub after-of : {o p : Result Record} → o ≡ p → o .after ≡ p .after
 after-of e = ap (λ (x : Result Record). x .after) e
 
--- ---- each call
-
 text-becomes : (r : Record) (m : ℕ) (line room : List ℕ) (n : ℕ) → Becomes r n (inRoom (text m line) room) (zoneAt (answerText r m line room .after) n)
 text-becomes r m line room n =
-    at-zone r (inRoom (text m line) room) m n (text-others r m line room) (λ d.
+    at-zone r (inRoom (text m line) room) m n (text-touches r m line room) (λ d.
     let w = line-is-done r m line room d in
     by-command r (answerText r m line room .after) (inRoom (text m line) room) m (w .command) (text-after r m line room ∙ after-of (w .came .same)) (w .came .done) (λ f e. by-line line room (w .reads ∙ ap Known e) d))
 
@@ -97,7 +84,7 @@ frame-becomes r bytes room n =
     let w = frame-is-done r bytes room d in
     let same = frame-after r bytes room ∙ after-of (w .came .same) in
     at-zone r (inRoom (frame bytes) room) (w .zone) n
-    (λ k u. ap (λ (s : Record). zoneAt s k) same ∙ apply-keeps r (w .zone) (w .command) .others k u)
+    (λ k u. frame-touches r bytes room k (λ q. u (q ∙ ap zoneFound (w .found))))
     (λ d. by-command r (answerFrame r bytes room .after) (inRoom (frame bytes) room) (w .zone) (w .command) same (w .came .done)
     (λ f e. by-frame bytes room (w .present .present) (w .reads ∙ (λ i. Request (sym (w .address) i) (Known (e i)))) d)))
     (λ u. stays (ap (λ (s : Record). zoneAt s n) (record-kept r (inRoom (frame bytes) room) u)))

@@ -24,7 +24,7 @@ use Rattle.session.specs.Inputs.{Input, on-port, on-pair, next, heard}
 use Rattle.session.specs.Order.{goesTo}
 use Rattle.session.specs.Neighbours.{carries, forOthers, NeighboursDoNotDisturb, HangsOnTheZone, AddressStays, Reading, EvenUnplugged, FifthByteReads, LeavesOthers}
 use Rattle.session.proofs.Done.{frame-is-done}
-use Rattle.session.proofs.Order.{Stores, stores-there, stored-zone, stored-elsewhere, idle-kept, Effect, idle, stores, effect, same-head, head-stays, same-sound, idle-too, stores-too}
+use Rattle.session.proofs.Order.{Stores, stores-there, stored-zone, touches, idle-kept, Effect, idle, stores, effect, same-head, head-stays, same-sound, idle-too, stores-too}
 use Rattle.session.proofs.Struck.{may-be-struck, strike-again}
 
 -- ---- what is for a zone, and where it goes
@@ -64,7 +64,7 @@ others-keep r n x e = by-effect (effect r x)
     by-effect : Effect r x → zoneAt (next r x) n ≡ zoneAt r n
     by-effect (idle u) = ap (λ (s : Record). zoneAt s n) (idle-kept r x u)
     by-effect (stores f s) =
-        stored-elsewhere r x f s n (λ q. never (sym (stored-for r x f s) ∙ ap (λ (m : ℕ). forOthers r m x) (sym q) ∙ e))
+        touches r x n (λ q. never (sym (stored-for r x f s) ∙ ap (λ (m : ℕ). forOthers r m x) (sym q) ∙ e))
 
 -- and what is stored in it sets its figures
 stored-at : (r : Record) (n : ℕ) (x : Input) (f : Figures) → Stores r x f → goesTo r x ≡ n → zoneAt (next r x) n ≡ withFigures (zoneAt r n) f

@@ -30,7 +30,7 @@ use Rattle.frame.specs.Frame.{addressIn, bodyIn, bodyRead}
 use Rattle.roads.specs.Calls.{zoneFound}
 use Rattle.roads.specs.Rules.{JudgesAlike}
 use Rattle.roads.proofs.CallLaws.{right-sum}
-use Rattle.roads.proofs.Local.{text-local, frame-local}
+use Rattle.roads.proofs.Local.{text-local, frame-local, text-touches, frame-touches}
 use Rattle.session.specs.Sessions.{Done}
 use Rattle.session.specs.Demands.{Present}
 use Rattle.session.specs.Inputs.{Input, on-port, on-pair, sent, next, Heard, heard}
@@ -97,8 +97,10 @@ stored-zone r x f s =
     let p = stores-there r x f s in
     ap (λ (s : Record). zoneAt s (goesTo r x)) (stores-left r x f s) ∙ stored-there r (goesTo r x) (withFigures (zoneAt r (goesTo r x)) f) (p .sound-record) (p .below)
 
-pub stored-elsewhere : (r : Record) (x : Input) (f : Figures) → Stores r x f → (m : ℕ) → (m ≡ goesTo r x → ⊥) → zoneAt (next r x) m ≡ zoneAt r m
-stored-elsewhere r x f s m u = ap (λ (s : Record). zoneAt s m) (stores-left r x f s) ∙ getD-set-other (r .zones) (goesTo r x) m (withFigures (zoneAt r (goesTo r x)) f) emptyZone u
+-- every other zone is left as it was, whatever the input
+pub touches : (r : Record) (x : Input) (m : ℕ) → (m ≡ goesTo r x → ⊥) → zoneAt (next r x) m ≡ zoneAt r m
+touches r (on-port n line room) m u = text-touches r n line room m u
+touches r (on-pair bytes room) m u = frame-touches r bytes room m u
 
 -- every other input leaves the record as it was: a refused one, and a read
 abbrev pub Idle : Record → Input → Type 0
@@ -171,7 +173,7 @@ keeps r x m = by-effect (effect r x)
     by-effect (stores f s) =
         by-zone m (goesTo r x)
         (λ e. subst (Keeps r x) (sym e) (kept-besides r x f s (rw (stored-zone r x f s) (sets-figures (zoneAt r (goesTo r x)) f))))
-        (λ u. kept-whole r x m (stored-elsewhere r x f s m u))
+        (λ u. kept-whole r x m (touches r x m u))
 
 pub head-stays : (r : Record) (x : Input) (m : ℕ) → SameHead (zoneAt r m) (zoneAt (next r x) m)
 head-stays r x m = keeps r x m .head
