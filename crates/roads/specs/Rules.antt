@@ -54,7 +54,7 @@ FrameHangsOnItsZone = (r r′ : Record) (bytes room : List ℕ) → sound r ≡ 
     → figuresOf (zoneAt r (zoneFound (holder r bytes))) group ≡ figuresOf (zoneAt r′ (zoneFound (holder r bytes))) group)
     → answerFrame r bytes room .said ≡ answerFrame r′ bytes room .said
 
--- and neither touches any other zone: a line none but that of its port, a frame none but the one that holds its address.
+-- and neither touches any other zone: a line none but that of its port, a frame none but the one that holds its address. (Bytes that are no frame alter no zone at all, since they are refused: EndsWell, in session/specs/Demands.antt.)
 -- `text-touches` and `frame-touches`, in proofs/Local.antt
 abbrev pub LineTouchesItsZone : Type 0
 LineTouchesItsZone = (r : Record) (n : ℕ) (line room : List ℕ) (m : ℕ) → (m ≡ n → ⊥) → zoneAt (answerText r n line room .after) m ≡ zoneAt r m

@@ -3,23 +3,21 @@ use mathlib.Core.Path.{_≡_, refl, ap}
 use mathlib.Core.Bool.{Bool, true, false}
 use mathlib.Core.List.{List, [], _∷_}
 use Rattle.card.specs.declared.records.Record.{Record}
-use Rattle.session.specs.Sessions.{runBy, heardBy, strike, heardBesides, MayBeStruck}
+use Rattle.session.specs.Sessions.{strike, SameWithout, MayBeStruck}
 
 module _ {C A : Type 0} (out : C → Bool) (step : Record → C → Record) (answer : Record → C → A) (Alike : Record → Record → Type 0) where
-  -- what is to be shown of a session and of what stays of it
-  abbrev Same : Record → Record → List C → Type 0
-  Same r r′ xs = (heardBesides out step answer r xs ≡ heardBy step answer r′ (strike out xs)) × Alike (runBy step r xs) (runBy step r′ (strike out xs))
-
   pub may-be-struck : MayBeStruck out step answer Alike
-  may-be-struck k r r′ [] a = (refl, a)
+  may-be-struck k r r′ [] a = record { answers = refl; left = a }
   may-be-struck k r r′ (x ∷ xs) a = by-test (out x) refl (λ s s′ b. may-be-struck k s s′ xs b)
     where
-      by-test : (t : Bool) → out x ≡ t → ((s s′ : Record) → Alike s s′ → Same s s′ xs) → Same r r′ (x ∷ xs)
-      by-test true e rest = rw e (rest (step r x) r′ (k .struck r r′ x a e))
+      by-test : (t : Bool) → out x ≡ t → ((s s′ : Record) → Alike s s′ → SameWithout out step answer Alike s s′ xs) → SameWithout out step answer Alike r r′ (x ∷ xs)
+      by-test true e rest =
+          let others = rest (step r x) r′ (k .struck r r′ x a e) in
+          record { answers = rw e (others .answers); left = rw e (others .left) }
       by-test false e rest =
-          let same = k .stays r r′ x a e in
+          let same = k .remains r r′ x a e in
           let others = rest (step r x) (step r′ x) (same .1) in
-          rw e (λ i. (x, same .0 i) ∷ others .0 i, others .1)
+          record { answers = rw e (λ i. (x, same .0 i) ∷ others .answers i); left = rw e (others .left) }
 
 -- where out strikes out whatever less does, it may strike it out of what less has left
 pub strike-again : {A : Type 0} (less out : A → Bool) (xs : List A) → ((x : A) → less x ≡ true → out x ≡ true) → strike out (strike less xs) ≡ strike out xs

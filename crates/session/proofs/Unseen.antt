@@ -32,10 +32,10 @@ use Rattle.wire.specs.declared.Parsed.{Parsed}
 use Rattle.wire.specs.declared.Parsed.the-variants.{Known, Unknown, Syntax}
 use Rattle.line.specs.Line.{lineRead}
 use Rattle.frame.specs.Frame.{addressIn, bodyIn, bodyRead}
-use Rattle.roads.specs.Calls.{Said, said, parsedAt, textResult, answerText, textPlace, zoneFound, holder, frameResult, answerFrame}
+use Rattle.roads.specs.Calls.{said, parsedAt, textResult, answerText, textPlace, zoneFound, holder, frameResult, answerFrame}
 use Rattle.roads.specs.Rules.{JudgesAlike}
 use Rattle.roads.proofs.Local.{text-rows, frame-rows, text-local, frame-local}
-use Rattle.session.specs.Sessions.{text, frame, composeLine, composeFrame, Quiet, add, remove, report, apply, chooseSource, setpointInUse, book, ship, merge, repair, Call, inRoom, quiet, answerTo, after, resultOf, run, heardBy, heardBesides}
+use Rattle.session.specs.Sessions.{text, frame, composeLine, composeFrame, Quiet, add, remove, report, apply, chooseSource, setpointInUse, book, ship, merge, repair, Call, inRoom, quiet, answerTo, after, saidTo, resultOf, heardBy, SameWithout}
 use Rattle.session.specs.Sources.{quietOfSource, ofSource, struck, Alike, SourcesAreUnseen}
 use Rattle.session.proofs.Demand3.{stays-sound}
 use Rattle.session.proofs.Struck.{may-be-struck, strike-again}
@@ -262,17 +262,13 @@ one-source r r′ call a e =
 
 -- ---- whole sessions
 
-abbrev saidTo : Record → Call → Said
-saidTo r call = answerTo r call .said
-
-module _ (r r′ : Record) (calls : List Call) (a : Alike r r′) where
-  through : (heardBesides ofSource after saidTo r calls ≡ heardBy after saidTo r′ (struck calls)) × Alike (run r calls) (run r′ (struck calls))
-  through = may-be-struck ofSource after saidTo Alike (record { struck = λ s s′ call. one-source s s′ call; stays = λ s s′ call. one-unseen s s′ call }) r r′ calls a
+through : (r r′ : Record) (calls : List Call) → Alike r r′ → SameWithout ofSource after saidTo Alike r r′ calls
+through = may-be-struck ofSource after saidTo Alike (record { struck = λ s s′ call. one-source s s′ call; remains = λ s s′ call. one-unseen s s′ call })
 
 pub unseen : SourcesAreUnseen
 unseen r r′ calls a =
     let k = through r r′ calls a in
-    -- in what stays there is nothing more to strike out
-    let whole = through r′ r′ (struck calls) (record { zones = λ n. refl; sound-one = a .sound-other; sound-other = a .sound-other }) .0 in
+    -- in what remains there is nothing more to strike out
+    let whole = through r′ r′ (struck calls) (record { zones = λ n. refl; sound-one = a .sound-other; sound-other = a .sound-other }) .answers in
     let once = ap (heardBy after saidTo r′) (sym (strike-again ofSource ofSource calls (λ call e. e))) in
-    record { answers = ap (map (λ p. p .1)) (k .0 ∙ once ∙ sym whole); left = k .1; place = λ n line room. text-answered (k .1) n line room .1 }
+    record { answers = ap (map (λ p. p .1)) (k .answers ∙ once ∙ sym whole); left = k .left; place = λ n line room. text-answered (k .left) n line room .1 }

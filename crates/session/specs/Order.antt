@@ -1,19 +1,17 @@
 -- "Sending order" (document 02, Req 10): which lines and frames may change places, what is the same if they do, and what does not commute. Above each statement stands where it is proved.
 -- A card that refuses everything would satisfy all of it but the worked cases; demand 2 rules that one out (WritesAreJudged, in Demands.antt).
 -- How to read it. "(x : A) → P" says that P holds for every x, "P → Q" that Q holds where P does ("P → Q → R" that R holds where both do), "⊥" never holds, so "P → ⊥" says that P does not hold, "Unit" always does; "P × Q" says that both hold and "(x : A) × P" that there is an x with P, "P ⊎ Q" that one of the two holds, "P ↔ Q" that each holds where the other does, "x ≡ y" that they are equal.
--- Of a "record" all lines hold, of a "data" one; "Type 0" is what statements and kinds of things are, and what stands in braces is found from the rest. "[]" is the empty list, "x ∷ xs" is x and behind it the list xs, "map f xs" has f of each; "A × B" are the pairs "(a, b)", of which ".0" is the first part and ".1" the second; "z .part" is that part of z, "λ x. e" what gives e for x.
+-- Of a "record" all lines hold, of a "data" one; "Type 0" is what statements and kinds of things are, and what stands in braces is found from the rest. "[]" is the empty list, "x ∷ xs" is x and behind it the list xs, "map f xs" has f of each; "A × B" are the pairs "(a, b)", of which ".0" is the first part and ".1" the second; "z .part" is that part of z, "λ x. e" what gives e for x. "true" and "false" are what tests give ("Bool"): "eqb a b" tests whether two numbers are equal, "&&" is and, "||" or, "not" the contrary.
 use Prim.Native.Nat.{ℕ}
 use Prim.Native.String.{String}
 use mathlib.Core.Path.{_≡_}
 use mathlib.Core.Logic.{_⊎_, _↔_}
 use mathlib.Core.Bool.{true, false}
 use mathlib.Core.List.{List, [], _∷_, map}
-use lib.ListN.{replicate}
 use Rattle.zone.specs.declared.figures.Group.{Group}
 use Rattle.zone.specs.declared.figures.Figures.{Figures}
 use Rattle.zone.specs.declared.figures.Command.{Command}
 use Rattle.zone.specs.declared.figures.Command.the-variants.{Read, Write}
-use Rattle.zone.specs.Lists.{ascii}
 use Rattle.zone.specs.Figures.{groupOf}
 use Rattle.zone.specs.Zones.{newZone}
 use Rattle.card.specs.declared.records.Record.{Record}
@@ -26,8 +24,8 @@ use Rattle.frame.specs.declared.reading.Framed.{Framed}
 use Rattle.frame.specs.declared.reading.Framed.the-variants.{NoFrame, BadSum, Request}
 use Rattle.frame.specs.Frame.{frameRead}
 use Rattle.roads.specs.Calls.{zoneFound, holder}
-use Rattle.session.specs.Sessions.{text, add, report, Call, inRoom, quiet, Done, runBy, run, heardBy, answersOf}
-use Rattle.session.specs.Inputs.{Input, on-port, on-pair, sent, next, heard}
+use Rattle.session.specs.Sessions.{add, report, Call, quiet, Done, runBy, run, heardBy, answersOf}
+use Rattle.session.specs.Inputs.{Input, on-port, on-pair, sent, next, heard, lineOn}
 
 -- ---- what a write is, and where it goes
 
@@ -178,9 +176,9 @@ AsAtFirst = (r : Record) (xs : List Input) → ((x : Input) → Has xs x → (gr
 abbrev pub start : Record
 start = withZone emptyRecord 5 (newZone 33 300)
 
--- a line to a zone, with room of 32 bytes
+-- a line to a zone, as it is sent
 abbrev pub lineTo : ℕ → String → Call
-lineTo zone command = inRoom (text zone (ascii command)) (replicate 32 0)
+lineTo zone command = sent (lineOn zone command)
 
 -- the commanded setpoint of zone 5 at the end
 abbrev pub setpointAfter : List Call → ℕ

@@ -9,7 +9,7 @@ use Rattle.zone.specs.declared.sources.Source.{Source}
 use Rattle.card.specs.declared.records.Record.{Record}
 use Rattle.card.specs.Answers.{Result}
 use Rattle.card.specs.Calls.{addOf, removeOf, reportOf, applyOf, chooseSourceOf, setpointInUseOf, bookOf, shipOf, mergeOf, repairOf}
-use Rattle.roads.specs.Calls.{Answered, said, answerText, answerFrame, composedLine, composedFrame}
+use Rattle.roads.specs.Calls.{Said, Answered, said, answerText, answerFrame, composedLine, composedFrame}
 
 -- a call that is lent a room, and may reply in it
 pub data Speaking : Type 0 where
@@ -62,6 +62,9 @@ answerTo r (quiet call) = record { said = said (resultOf r call .number) (result
 abbrev pub after : Record → Call → Record
 after r call = answerTo r call .after
 
+abbrev pub saidTo : Record → Call → Said
+saidTo r call = answerTo r call .said
+
 -- the call is answered as done
 abbrev pub Done : Record → Call → Type 0
 Done r call = answerTo r call .said .number ≡ 0
@@ -93,21 +96,27 @@ Throughout P r (call ∷ calls) = P r call × Throughout P (after r call) calls
 
 -- ---- a session of which a part is struck out, for any kinds of calls
 
--- strike out what the test names; the rest stays, in its order
+-- strike out what the test names; the rest remains, in its order ("cond t a b" is a where t is true, and else b)
 abbrev pub strike : {A : Type 0} → (A → Bool) → List A → List A
 strike out [] = []
 strike out (x ∷ xs) = cond (out x) (strike out xs) (x ∷ strike out xs)
 
--- of a whole session the calls that would stay, each with its answer
+-- of a whole session the calls that would remain, each with its answer
 abbrev pub heardBesides : {C A : Type 0} → (C → Bool) → (Record → C → Record) → (Record → C → A) → Record → List C → List (C × A)
 heardBesides out step answer r calls = strike (λ p. out (p .0)) (heardBy step answer r calls)
 
--- a call that is struck out is not missed: the record that it leaves and the one that it would have found are alike; any other is answered the same at two records that are alike, and leaves two that are. Alike says what such records have in common
+-- the whole session is sent from r, and what remains of it from r′; Alike says what two records have in common
+pub record SameWithout {C A : Type 0} (out : C → Bool) (step : Record → C → Record) (answer : Record → C → A) (Alike : Record → Record → Type 0) (r r′ : Record) (calls : List C) : Type 0 where
+  -- what remains is answered as in the whole session, call for call
+  pub answers : heardBesides out step answer r calls ≡ heardBy step answer r′ (strike out calls)
+  -- and the two end in records that are alike
+  pub left : Alike (runBy step r calls) (runBy step r′ (strike out calls))
+
+-- Of two records that are alike the first is met in the whole session, the second in what remains of it. A call that is struck out is sent to the first alone, and they are alike still; any other is sent to both, is answered the same, and leaves two that are alike
 pub record NotMissed {C A : Type 0} (out : C → Bool) (step : Record → C → Record) (answer : Record → C → A) (Alike : Record → Record → Type 0) : Type 0 where
   pub struck : (r r′ : Record) (x : C) → Alike r r′ → out x ≡ true → Alike (step r x) r′
-  pub stays : (r r′ : Record) (x : C) → Alike r r′ → out x ≡ false → (answer r x ≡ answer r′ x) × Alike (step r x) (step r′ x)
+  pub remains : (r r′ : Record) (x : C) → Alike r r′ → out x ≡ false → (answer r x ≡ answer r′ x) × Alike (step r x) (step r′ x)
 
--- then what stays is answered as in the whole session, call for call, and both end in records that are alike. `may-be-struck`, in proofs/Struck.antt
+-- then, from records that are alike, every session is the same without what is struck out. `may-be-struck`, in proofs/Struck.antt
 abbrev pub MayBeStruck : {C A : Type 0} → (C → Bool) → (Record → C → Record) → (Record → C → A) → (Record → Record → Type 0) → Type 0
-MayBeStruck {C} out step answer Alike = NotMissed out step answer Alike → (r r′ : Record) (xs : List C) → Alike r r′
-    → (heardBesides out step answer r xs ≡ heardBy step answer r′ (strike out xs)) × Alike (runBy step r xs) (runBy step r′ (strike out xs))
+MayBeStruck {C} out step answer Alike = NotMissed out step answer Alike → (r r′ : Record) (calls : List C) → Alike r r′ → SameWithout out step answer Alike r r′ calls

@@ -19,7 +19,7 @@ use Rattle.card.specs.Calls.{setpointTold}
 use Rattle.line.specs.Line.{lineOf}
 use Rattle.frame.specs.Frame.{frameOf}
 use Rattle.roads.specs.Calls.{Said, said, answerText, textPlace, answerFrame}
-use Rattle.session.specs.Sessions.{Quiet, add, remove, report, apply, chooseSource, setpointInUse, book, ship, merge, repair, Call, inRoom, quiet, answerTo, after, Done, run, Throughout, strike, heardBesides}
+use Rattle.session.specs.Sessions.{Quiet, add, remove, report, apply, chooseSource, setpointInUse, book, ship, merge, repair, Call, inRoom, quiet, answerTo, after, saidTo, Done, run, Throughout, strike, heardBesides}
 use Rattle.session.specs.Changes.{Writes, Removes, Chooses, NotAdded}
 use Rattle.session.specs.Demands.{Present, later}
 
@@ -130,7 +130,7 @@ struck calls = strike ofSource calls
 
 -- what is answered to all others of a session: numbers, figures, replies and rooms
 abbrev pub otherAnswers : Record → List Call → List Said
-otherAnswers r calls = map (λ p. p .1) (heardBesides ofSource after (λ s call. answerTo s call .said) r calls)
+otherAnswers r calls = map (λ p. p .1) (heardBesides ofSource after saidTo r calls)
 
 -- two sound records whose zones differ, if at all, in source and input alone
 pub record Alike (r r′ : Record) : Type 0 where
