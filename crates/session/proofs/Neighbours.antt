@@ -11,7 +11,7 @@ use Rattle.zone.specs.declared.figures.Figures.{Figures}
 use Rattle.zone.specs.declared.zones.Zone.{Zone}
 use Rattle.zone.specs.Zones.{emptyZone, figuresOf, withFigures}
 use Rattle.zone.specs.Rules.{SameHead}
-use Rattle.zone.proofs.Tests.{never, both, and-false}
+use Rattle.zone.proofs.Tests.{never, both, and-r, and-false}
 use Rattle.card.specs.declared.records.Record.{Record}
 use Rattle.card.specs.declared.records.Found.the-variants.{At}
 use Rattle.card.specs.Records.{emptyRecord, zoneAt, sound, findOf}
@@ -27,7 +27,7 @@ use Rattle.roads.proofs.Local.{text-local, frame-local}
 use Rattle.session.specs.Sessions.{runBy, heardBy, strike, SameWithout, NotMissed}
 use Rattle.session.specs.Inputs.{Input, on-port, on-pair, next, heard}
 use Rattle.session.specs.Order.{goesTo}
-use Rattle.session.specs.Neighbours.{carriesAddress, isFor, notFor, NeighboursDoNotDisturb, AtTheZone, HangsOnTheZone, AddressStays, EvenFromAnother, alone, Unplugged, Otherwise, HoweverRead, byFifthByte, ByFifthByteToo, LeavesOthers}
+use Rattle.session.specs.Neighbours.{isFor, notFor, NeighboursDoNotDisturb, AtTheZone, HangsOnTheZone, AddressStays, EvenFromAnother, alone, Unplugged, Otherwise, HoweverRead, byFifthByte, ByFifthByteToo, LeavesOthers}
 use Rattle.session.proofs.Done.{frame-is-done}
 use Rattle.session.proofs.Order.{Stores, stores-there, stored-zone, touches, idle-kept, Effect, idle, stores, effect, same-head, head-stays, same-sound, idle-too, stores-too}
 use Rattle.session.proofs.Struck.{may-be-struck, strike-again}
@@ -38,9 +38,8 @@ use Rattle.session.proofs.Struck.{may-be-struck, strike-again}
 held-there : (r : Record) (n : ℕ) (bytes room : List ℕ) → sound r ≡ true → isFor r n (on-pair bytes room) ≡ true → holder r bytes ≡ At n
 held-there r n bytes room s e =
     let z = zoneAt r n in
-    let here = both (z .present) (carriesAddress bytes (z .address)) e in
-    let a = eqb-true (z .address) (addressIn bytes) (both (shaped bytes) (eqb (z .address) (addressIn bytes)) (here .1) .1) in
-    ap (findOf r) (sym a) ∙ find-own r n s (here .0)
+    let here = both (z .present) (eqb (z .address) (addressIn bytes)) (and-r (shaped bytes) _ e) in
+    ap (findOf r) (sym (eqb-true (z .address) (addressIn bytes) (here .1))) ∙ find-own r n s (here .0)
 
 -- so what is for zone n goes to it
 goes-there : (r : Record) (n : ℕ) (x : Input) → sound r ≡ true → isFor r n x ≡ true → goesTo r x ≡ n
@@ -53,12 +52,12 @@ stored-for r (on-port m line room) f s = eq-eqb m m refl
 stored-for r (on-pair bytes room) f s =
     let w = frame-is-done r bytes room (s .done) in
     let e : w .zone ≡ goesTo r (on-pair bytes room) = ap zoneFound (sym (w .found)) in
-    rw (← e) (rw (w .present .present, right-sum bytes _ _ (w .reads) .0, eq-eqb _ _ (w .address)))
+    rw (← e) (rw (right-sum bytes _ _ (w .reads) .0, w .present .present, eq-eqb _ _ (w .address)))
 
 -- isFor asks for presence and address alone
 asked-alike : (r r′ : Record) (n : ℕ) → SameHead (zoneAt r n) (zoneAt r′ n) → (x : Input) → isFor r′ n x ≡ isFor r n x
 asked-alike r r′ n same (on-port m line room) = refl
-asked-alike r r′ n same (on-pair bytes room) = λ i. same .present i && carriesAddress bytes (same .address i)
+asked-alike r r′ n same (on-pair bytes room) = λ i. shaped bytes && (same .present i && eqb (same .address i) (addressIn bytes))
 
 -- ---- one input
 
@@ -123,7 +122,7 @@ at-the-zone r r′ n x s e = record { zone = by-test (isFor r n x) refl; not-for
 -- ---- bytes that are no frame
 
 shapeless-for-nobody : (r : Record) (n : ℕ) (bytes room : List ℕ) → shaped bytes ≡ false → isFor r n (on-pair bytes room) ≡ false
-shapeless-for-nobody r n bytes room q = rw q (and-false (zoneAt r n .present))
+shapeless-for-nobody r n bytes room q = rw q
 
 -- what is heard of them hangs on soundness alone
 shapeless-alike : (r r′ : Record) (bytes room : List ℕ) → sound r ≡ sound r′ → shaped bytes ≡ false → heard r (on-pair bytes room) ≡ heard r′ (on-pair bytes room)

@@ -86,7 +86,7 @@ storedBy r n f = withZone r n (withFigures (zoneAt r n) f)
 pub stores-there : (r : Record) (x : Input) (f : Figures) → Stores r x f → Present r (goesTo r x)
 stores-there r x f s = does r x (s .done) .present
 
-pub stores-left : (r : Record) (x : Input) (f : Figures) → Stores r x f → next r x ≡ storedBy r (goesTo r x) f
+stores-left : (r : Record) (x : Input) (f : Figures) → Stores r x f → next r x ≡ storedBy r (goesTo r x) f
 stores-left r x f s =
     let w = does r x (s .done) in
     let c : w .command ≡ Write f = command-is (sym (w .reads-as) ∙ s .is-write) in

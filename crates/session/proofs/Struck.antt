@@ -5,12 +5,12 @@ use mathlib.Core.List.{List, [], _∷_}
 use Rattle.card.specs.declared.records.Record.{Record}
 use Rattle.session.specs.Sessions.{strike, SameWithout, MayBeStruck}
 
-module _ {C A : Type 0} (out : C → Bool) (step : Record → C → Record) (answer : Record → C → A) (Alike : Record → Record → Type 0) where
-  pub may-be-struck : MayBeStruck out step answer Alike
+module _ {C A : Type 0} (out : C → Bool) (step : Record → C → Record) (answer : Record → C → A) (Like : Record → Record → Type 0) where
+  pub may-be-struck : MayBeStruck out step answer Like
   may-be-struck k r r′ [] a = record { answers = refl; left = a }
   may-be-struck k r r′ (x ∷ xs) a = by-test (out x) refl (λ s s′ b. may-be-struck k s s′ xs b)
     where
-      by-test : (t : Bool) → out x ≡ t → ((s s′ : Record) → Alike s s′ → SameWithout out step answer Alike s s′ xs) → SameWithout out step answer Alike r r′ (x ∷ xs)
+      by-test : (t : Bool) → out x ≡ t → ((s s′ : Record) → Like s s′ → SameWithout out step answer Like s s′ xs) → SameWithout out step answer Like r r′ (x ∷ xs)
       by-test true e rest =
           let others = rest (step r x) r′ (k .struck r r′ x a e) in
           record { answers = rw e (others .answers); left = rw e (others .left) }

@@ -1,5 +1,5 @@
 -- "Neighbours on the pair" (document 02, Req 12): strike out the traffic of the other zones, and a zone and the replies to what is for it are the same. Above each statement stands where it is proved; how to read them is said at the head of Order.antt, and `strike` stands in Sessions.antt.
--- A card that refuses everything would satisfy all of it but a worked case; demand 2 rules that one out (WritesAreJudged, in Demands.antt). One whose answers look at what no line and no frame alters of a neighbour, whether it is there, its range or its state, would satisfy NeighboursDoNotDisturb; HangsOnTheZone rules it out, and Unplugged, where it looks at whether a neighbour is there.
+-- What has to be replied is said by the demands: a card that refuses every line and frame, or tells the same figures to every read, would satisfy all of it. A card whose answers look at something that no line and no frame alters of a neighbour, such as whether it is there, would satisfy NeighboursDoNotDisturb; HangsOnTheZone and Unplugged rule that one out.
 use Prim.Native.Nat.{ℕ}
 use mathlib.Core.Path.{_≡_}
 use mathlib.Core.Bool.{Bool, true, false, not, _&&_}
@@ -8,7 +8,7 @@ use lib.ListN.{set, replicate}
 use lib.Dec.{eqb}
 use Rattle.zone.specs.declared.figures.Group.the-variants.{Hzbg}
 use Rattle.zone.specs.declared.figures.Command.the-variants.{Read}
-use Rattle.zone.specs.Zones.{newZone}
+use Rattle.zone.specs.Zones.{newZone, holds}
 use Rattle.zone.specs.Rules.{SameHead}
 use Rattle.card.specs.declared.records.Record.{Record}
 use Rattle.card.specs.Records.{emptyRecord, zoneAt, withZone, sound}
@@ -18,14 +18,11 @@ use Rattle.session.specs.Inputs.{Input, on-port, on-pair, next, heard, l
 
 -- ---- "Strike out all text for other zones and all frames that don't carry zone 3's address."
 
--- a frame carries an address: it is of document 01's shape, and that is its address. Bytes of another shape carry none, whatever the fifth of them is
-abbrev pub carriesAddress : List ℕ → ℕ → Bool
-carriesAddress bytes address = shaped bytes && eqb address (addressIn bytes)
-
--- what is for zone n: the text of its port, and the frames that carry the address that it has in r, the record at the start, whatever they are answered. Where the zone is absent no frame does
+-- what is for zone n: the text of its port, and the frames that carry its address, whatever they are answered. These are of document 01's shape, and zone n, present, holds their address in r, which of a session is the record at the start.
+-- So where the zone is absent no frame is for it; and bytes of another shape carry no address, whatever the fifth of them is
 abbrev pub isFor : Record → ℕ → Input → Bool
 isFor r n (on-port zone line room) = eqb zone n
-isFor r n (on-pair bytes room) = zoneAt r n .present && carriesAddress bytes (zoneAt r n .address)
+isFor r n (on-pair bytes room) = shaped bytes && holds (addressIn bytes) (zoneAt r n)
 
 -- all else is struck out: what is for others, or for nobody
 abbrev pub notFor : Record → ℕ → Input → Bool
@@ -33,7 +30,7 @@ notFor r n x = not (isFor r n x)
 
 -- ---- "Zone 3's figures and the replies to what remains are the same."
 
--- The whole session is sent from r; what remains where `out` has been struck out is sent from r′, in the request's own statement the same record. At the end zone n is the same, all of it; and to what remains the same is replied, input for input: number, figures, length of the reply, the whole room, and the place
+-- The whole session is sent from r; what remains where `out` has been struck out is sent from r′, in the request's own statement the same record. At the end zone n is the same, all of it; and to what remains the same is replied, input for input: number, figures, length of the reply, the whole room, and the place. (Each input has a room of its own, lent with the same bytes in it in both.)
 abbrev pub SameFor : ℕ → (Input → Bool) → Record → Record → List Input → Type 0
 SameFor n out r r′ xs = SameWithout out next heard (λ s s′. zoneAt s n ≡ zoneAt s′ n) r r′ xs
 
@@ -61,20 +58,21 @@ HangsOnTheZone = (r r′ : Record) (n : ℕ) (x : Input) → sound r ≡ sound r
 abbrev pub AddressStays : Type 0
 AddressStays = (r : Record) (n : ℕ) (xs : List Input) → SameHead (zoneAt r n) (zoneAt (runBy next r xs) n)
 
--- ---- "the fitters unplug the others": they need not, for it would be the same
+-- ---- "the fitters unplug the others": for the card it would be the same
 
 -- what remains may be sent from another record, both sound or neither, that has zone n in common with the first. `even-from-another`, in proofs/Neighbours.antt
 abbrev pub EvenFromAnother : Type 0
 EvenFromAnother = (r r′ : Record) (n : ℕ) (xs : List Input) → sound r ≡ sound r′ → zoneAt r n ≡ zoneAt r′ n → SameFor n (notFor r n) r r′ xs
 
--- so from the record with zone n and no other. `unplugged`, in proofs/Neighbours.antt
+-- the record with zone n and no other
 abbrev pub alone : Record → ℕ → Record
 alone r n = withZone emptyRecord n (zoneAt r n)
 
+-- so it may be sent from that one. `unplugged`, in proofs/Neighbours.antt
 abbrev pub Unplugged : Type 0
 Unplugged = (r : Record) (n : ℕ) (xs : List Input) → sound r ≡ true → SameFor n (notFor r n) r (alone r n) xs
 
--- ---- however "carry" is read
+-- ---- however bytes of another shape are read
 
 -- another reading of what is struck out: of text, and of frames of document 01's shape, it says what notFor says; of other bytes on the pair, which get 4 (or 1, or 2) and alter nothing, it may say anything
 pub record Otherwise (out : Input → Bool) (r : Record) (n : ℕ) : Type 0 where
@@ -88,7 +86,7 @@ HoweverRead = (r r′ : Record) (n : ℕ) (out : Input → Bool) (xs : List Inpu
 -- one goes by the fifth byte alone, whatever the shape (what has no fifth byte counts as 0 there, an address that no present zone of a sound record has)
 abbrev pub byFifthByte : Record → ℕ → Input → Bool
 byFifthByte r n (on-port zone line room) = notFor r n (on-port zone line room)
-byFifthByte r n (on-pair bytes room) = not (zoneAt r n .present && eqb (zoneAt r n .address) (addressIn bytes))
+byFifthByte r n (on-pair bytes room) = not (holds (addressIn bytes) (zoneAt r n))
 
 -- `by-fifth-byte-too`, in proofs/Neighbours.antt
 abbrev pub ByFifthByteToo : Type 0
@@ -111,7 +109,7 @@ LeavesOthers = (r : Record) (n m : ℕ) (xs : List Input) → sound r ≡ true �
 abbrev pub two : Record
 two = withZone (withZone emptyRecord 3 (newZone 35 300)) 4 (newZone 36 300)
 
--- a frame that reads HZBG, the same with another checksum, and five bytes that are no frame, each with room of 32 bytes
+-- a frame that reads HZBG, the same with byte 7, its checksum, made 0, and five bytes that are no frame, each with room of 32 bytes
 abbrev pub frameTo : ℕ → Input
 frameTo address = on-pair (frameOf address (Read Hzbg)) (replicate 32 0)
 

@@ -94,10 +94,10 @@ abbrev pub Throughout : (Record → Call → Type 0) → Record → List Call �
 Throughout P r [] = Unit {0}
 Throughout P r (call ∷ calls) = P r call × Throughout P (after r call) calls
 
--- ---- a session of which a part is struck out, for any kinds of calls
+-- ---- a session of which a part is struck out, for any kinds of calls (the signs are explained at the head of Order.antt)
 
 -- strike out what the test names; the rest remains, in its order ("cond t a b" is a where t is true, and else b)
-abbrev pub strike : {A : Type 0} → (A → Bool) → List A → List A
+abbrev pub strike : {C : Type 0} → (C → Bool) → List C → List C
 strike out [] = []
 strike out (x ∷ xs) = cond (out x) (strike out xs) (x ∷ strike out xs)
 
@@ -105,18 +105,18 @@ strike out (x ∷ xs) = cond (out x) (strike out xs) (x ∷ strike out xs)
 abbrev pub heardBesides : {C A : Type 0} → (C → Bool) → (Record → C → Record) → (Record → C → A) → Record → List C → List (C × A)
 heardBesides out step answer r calls = strike (λ p. out (p .0)) (heardBy step answer r calls)
 
--- the whole session is sent from r, and what remains of it from r′; Alike says what two records have in common
-pub record SameWithout {C A : Type 0} (out : C → Bool) (step : Record → C → Record) (answer : Record → C → A) (Alike : Record → Record → Type 0) (r r′ : Record) (calls : List C) : Type 0 where
+-- the whole session is sent from r, and what remains of it from r′; Like says what two records have in common
+pub record SameWithout {C A : Type 0} (out : C → Bool) (step : Record → C → Record) (answer : Record → C → A) (Like : Record → Record → Type 0) (r r′ : Record) (calls : List C) : Type 0 where
   -- what remains is answered as in the whole session, call for call
   pub answers : heardBesides out step answer r calls ≡ heardBy step answer r′ (strike out calls)
   -- and the two end in records that are alike
-  pub left : Alike (runBy step r calls) (runBy step r′ (strike out calls))
+  pub left : Like (runBy step r calls) (runBy step r′ (strike out calls))
 
 -- Of two records that are alike the first is met in the whole session, the second in what remains of it. A call that is struck out is sent to the first alone, and they are alike still; any other is sent to both, is answered the same, and leaves two that are alike
-pub record NotMissed {C A : Type 0} (out : C → Bool) (step : Record → C → Record) (answer : Record → C → A) (Alike : Record → Record → Type 0) : Type 0 where
-  pub struck : (r r′ : Record) (x : C) → Alike r r′ → out x ≡ true → Alike (step r x) r′
-  pub remains : (r r′ : Record) (x : C) → Alike r r′ → out x ≡ false → (answer r x ≡ answer r′ x) × Alike (step r x) (step r′ x)
+pub record NotMissed {C A : Type 0} (out : C → Bool) (step : Record → C → Record) (answer : Record → C → A) (Like : Record → Record → Type 0) : Type 0 where
+  pub struck : (r r′ : Record) (x : C) → Like r r′ → out x ≡ true → Like (step r x) r′
+  pub remains : (r r′ : Record) (x : C) → Like r r′ → out x ≡ false → (answer r x ≡ answer r′ x) × Like (step r x) (step r′ x)
 
 -- then, from records that are alike, every session is the same without what is struck out. `may-be-struck`, in proofs/Struck.antt
 abbrev pub MayBeStruck : {C A : Type 0} → (C → Bool) → (Record → C → Record) → (Record → C → A) → (Record → Record → Type 0) → Type 0
-MayBeStruck {C} out step answer Alike = NotMissed out step answer Alike → (r r′ : Record) (calls : List C) → Alike r r′ → SameWithout out step answer Alike r r′ calls
+MayBeStruck {C} out step answer Like = NotMissed out step answer Like → (r r′ : Record) (calls : List C) → Like r r′ → SameWithout out step answer Like r r′ calls
