@@ -5,7 +5,7 @@ use mathlib.Core.Logic.{_↔_}
 use mathlib.Core.Bool.{Bool, true, false, cond}
 use mathlib.Core.List.{List, [], _∷_}
 use native.Mathlib.Omega.{arith}
-use lib.ListN.{length, getD, List·getD-eq-default}
+use lib.ListN.{getD, List·getD-eq-default}
 use lib.Dec.{ltb, eqb}
 use borrow.Author.Tests.{ltb-true, ltb-false, lt-leb, eqb-true, eq-eqb}
 use Rattle.zone.specs.declared.zones.Zone.{Zone}
@@ -90,15 +90,17 @@ find-alike r r′ address same = by-found (findOf r address) refl
     by-found (At n) e = let f = is-first r address n e in sym (found-first r′ address n .1 (record { here = sym (same n) ∙ f .here; earlier = λ m l. sym (same m) ∙ f .earlier m l }))
     by-found Nowhere e = sym (found-nowhere r′ address .1 (λ m. sym (same m) ∙ none-holds r address e m))
 
+-- above 15 a sound record has the empty zone
+pub past-empty : (r : Record) (n : ℕ) → sound r ≡ true → 16 ≤ n → zoneAt r n ≡ emptyZone
+past-empty r n s h = List·getD-eq-default (r .zones) emptyZone {n = n} (omega (arith, sound-parts r s .sixteen, h))
+
 -- a present zone of a sound record is one of the sixteen
 pub present-below : (r : Record) (n : ℕ) → sound r ≡ true → zoneAt r n .present ≡ true → n < 16
 present-below r n s p = by-place (ltb n 16) refl
   where
     by-place : (t : Bool) → ltb n 16 ≡ t → n < 16
     by-place true k = ltb-true n 16 k
-    by-place false k =
-        let past : length (r .zones) ≤ n = omega (arith, sound-parts r s .sixteen, ltb-false n 16 k) in
-        never (ap (λ (z : Zone). z .present) (sym (List·getD-eq-default (r .zones) emptyZone {n = n} past)) ∙ p)
+    by-place false k = never (ap (λ (z : Zone). z .present) (sym (past-empty r n s (ltb-false n 16 k))) ∙ p)
 
 -- in a sound record what is found is a present zone
 pub found-there : (r : Record) (address n : ℕ) → sound r ≡ true → findOf r address ≡ At n → noZone r n ≡ false
@@ -107,7 +109,7 @@ found-there r address n s e =
     let present = both (zoneAt r n .present) (eqb (zoneAt r n .address) address) here .0 in
     rw (lt-leb 16 n (present-below r n s present), present)
 
--- ---- in a sound record a zone is found by its own address
+-- ---- in a sound record a zone is found by the address that it holds, its own
 
 held-here : (zs : List Zone) (a n : ℕ) → holds a (getD zs n emptyZone) ≡ true → heldIn zs a ≡ true
 held-here [] a n h = never h
@@ -124,12 +126,12 @@ one-holder (z ∷ zs) a zero (suc n) d l h k =
 one-holder (z ∷ zs) a (suc m) zero d l h k = omega arith
 one-holder (z ∷ zs) a (suc m) (suc n) d l h k = one-holder zs a m n (differ-parts z zs d .1) (omega arith) h k
 
-pub find-own : (r : Record) (n : ℕ) → sound r ≡ true → zoneAt r n .present ≡ true → findOf r (zoneAt r n .address) ≡ At n
-find-own r n s p = found-first r (zoneAt r n .address) n .1 (record { here = here; earlier = λ m l. by-test m l (holds (zoneAt r n .address) (zoneAt r m)) refl })
+pub find-held : (r : Record) (a n : ℕ) → sound r ≡ true → holds a (zoneAt r n) ≡ true → findOf r a ≡ At n
+find-held r a n s here = found-first r a n .1 (record { here = here; earlier = λ m l. by-test m l (holds a (zoneAt r m)) refl })
   where
-    here : holds (zoneAt r n .address) (zoneAt r n) ≡ true
-    here = rw (p, eq-eqb (zoneAt r n .address) (zoneAt r n .address) refl)
-
-    by-test : (m : ℕ) → m < n → (t : Bool) → holds (zoneAt r n .address) (zoneAt r m) ≡ t → t ≡ false
-    by-test m l true e = absurd (one-holder (r .zones) (zoneAt r n .address) m n (sound-parts r s .addresses) l e here)
+    by-test : (m : ℕ) → m < n → (t : Bool) → holds a (zoneAt r m) ≡ t → t ≡ false
+    by-test m l true e = absurd (one-holder (r .zones) a m n (sound-parts r s .addresses) l e here)
     by-test m l false e = refl
+
+pub find-own : (r : Record) (n : ℕ) → sound r ≡ true → zoneAt r n .present ≡ true → findOf r (zoneAt r n .address) ≡ At n
+find-own r n s p = find-held r (zoneAt r n .address) n s (rw (p, eq-eqb (zoneAt r n .address) (zoneAt r n .address) refl))

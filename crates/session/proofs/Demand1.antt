@@ -103,20 +103,20 @@ meets-silence r f room u =
 abbrev Unheld : ℕ → Record → Type 0
 Unheld a r = (m : ℕ) → holds a (zoneAt r m) ≡ false
 
-same-holder : (a : ℕ) (before after : Zone) → SameHead before after → holds a before ≡ false → holds a after ≡ false
-same-holder a before after s h = rw (s .present, s .address) h
+pub same-holder : (a : ℕ) {before after : Zone} → SameHead before after → holds a after ≡ holds a before
+same-holder a s = λ i. s .present i && eqb (s .address i) a
 
 one-unheld : (a : ℕ) (r : Record) (call : Call) → Unheld a r → NotGiven a r call → Unheld a (after r call)
 one-unheld a r call h u m = by-change (becomes r call m)
   where
     by-change : {z : Zone} → Becomes r m call z → holds a z ≡ false
     by-change (stays s) = rw s (h m)
-    by-change {z} (written figures w p s) = same-holder a (zoneAt r m) z (s .head) (h m)
-    by-change {z} (was-reported state actual w p s) = same-holder a (zoneAt r m) z (s .head) (h m)
+    by-change (written figures w p s) = same-holder a (s .head) ∙ h m
+    by-change (was-reported state actual w p s) = same-holder a (s .head) ∙ h m
     by-change (was-removed w p s) = rw s
-    by-change {z} (was-chosen source millivolts w p s) = same-holder a (zoneAt r m) z (s .head) (h m)
-    by-change {z} (was-rebooked kilograms w p s) = same-holder a (zoneAt r m) z (s .head) (h m)
-    by-change {z} (was-mended window w p s) = same-holder a (zoneAt r m) z (s .head) (h m)
+    by-change (was-chosen source millivolts w p s) = same-holder a (s .head) ∙ h m
+    by-change (was-rebooked kilograms w p s) = same-holder a (s .head) ∙ h m
+    by-change (was-mended window w p s) = same-holder a (s .head) ∙ h m
     by-change (was-added b range w p s) = rw s (by-address (eqb b a) refl)
       where
         by-address : (t : Bool) → eqb b a ≡ t → t ≡ false

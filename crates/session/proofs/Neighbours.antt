@@ -1,22 +1,20 @@
 -- What a line or a frame does at a zone hangs on that zone and on soundness alone; so the traffic of its neighbours may be struck out (document 02, Req 12). Assumes nothing.
-use Prim.Native.Nat.{ℕ, _≤_}
+use Prim.Native.Nat.{ℕ}
 use mathlib.Core.Path.{_≡_, refl, sym, ap, _∙_, subst}
 use mathlib.Core.Bool.{Bool, true, false, not, _&&_}
 use mathlib.Core.List.{List}
-use native.Mathlib.Omega.{arith}
-use lib.ListN.{List·getD-eq-default}
-use lib.Dec.{ltb, eqb}
+use lib.Dec.{ltb}
 use borrow.Author.Tests.{ltb-true, ltb-false, eqb-true, eq-eqb, not-true, not-false}
 use Rattle.zone.specs.declared.figures.Figures.{Figures}
 use Rattle.zone.specs.declared.zones.Zone.{Zone}
-use Rattle.zone.specs.Zones.{emptyZone, figuresOf, withFigures}
+use Rattle.zone.specs.Zones.{figuresOf, withFigures}
 use Rattle.zone.specs.Rules.{SameHead}
-use Rattle.zone.proofs.Tests.{never, both, and-r, and-false}
+use Rattle.zone.proofs.Tests.{never, and-r, and-false}
 use Rattle.card.specs.declared.records.Record.{Record}
 use Rattle.card.specs.declared.records.Found.the-variants.{At}
-use Rattle.card.specs.Records.{emptyRecord, zoneAt, sound, findOf}
-use Rattle.card.proofs.Storing.{sound-parts, zone-sound, stored-new}
-use Rattle.card.proofs.Found.{find-own}
+use Rattle.card.specs.Records.{emptyRecord, zoneAt, sound}
+use Rattle.card.proofs.Storing.{zone-sound, stored-new}
+use Rattle.card.proofs.Found.{find-held, past-empty}
 use Rattle.card.proofs.Sets.{stored-there}
 use Rattle.card.proofs.Worked.{empty-record-sound}
 use Rattle.frame.specs.Frame.{shaped, addressIn}
@@ -29,6 +27,7 @@ use Rattle.session.specs.Inputs.{Input, on-port, on-pair, next, heard}
 use Rattle.session.specs.Order.{goesTo}
 use Rattle.session.specs.Neighbours.{isFor, notFor, NeighboursDoNotDisturb, AtTheZone, HangsOnTheZone, AddressStays, EvenFromAnother, alone, Unplugged, Otherwise, HoweverRead, byFifthByte, ByFifthByteToo, LeavesOthers}
 use Rattle.session.proofs.Done.{frame-is-done}
+use Rattle.session.proofs.Demand1.{same-holder}
 use Rattle.session.proofs.Order.{Stores, stores-there, stored-zone, touches, idle-kept, Effect, idle, stores, effect, same-head, head-stays, same-sound, idle-too, stores-too}
 use Rattle.session.proofs.Struck.{may-be-struck, strike-again}
 
@@ -36,10 +35,7 @@ use Rattle.session.proofs.Struck.{may-be-struck, strike-again}
 
 -- in a sound record who holds the address of a frame for zone n is zone n
 held-there : (r : Record) (n : ℕ) (bytes room : List ℕ) → sound r ≡ true → isFor r n (on-pair bytes room) ≡ true → holder r bytes ≡ At n
-held-there r n bytes room s e =
-    let z = zoneAt r n in
-    let here = both (z .present) (eqb (z .address) (addressIn bytes)) (and-r (shaped bytes) _ e) in
-    ap (findOf r) (sym (eqb-true (z .address) (addressIn bytes) (here .1))) ∙ find-own r n s (here .0)
+held-there r n bytes room s e = find-held r (addressIn bytes) n s (and-r (shaped bytes) _ e)
 
 -- so what is for zone n goes to it
 goes-there : (r : Record) (n : ℕ) (x : Input) → sound r ≡ true → isFor r n x ≡ true → goesTo r x ≡ n
@@ -57,7 +53,7 @@ stored-for r (on-pair bytes room) f s =
 -- isFor asks for presence and address alone
 asked-alike : (r r′ : Record) (n : ℕ) → SameHead (zoneAt r n) (zoneAt r′ n) → (x : Input) → isFor r′ n x ≡ isFor r n x
 asked-alike r r′ n same (on-port m line room) = refl
-asked-alike r r′ n same (on-pair bytes room) = λ i. shaped bytes && (same .present i && eqb (same .address i) (addressIn bytes))
+asked-alike r r′ n same (on-pair bytes room) = ap (λ (t : Bool). shaped bytes && t) (same-holder (addressIn bytes) same)
 
 -- ---- one input
 
@@ -217,12 +213,9 @@ alone-sound r n s = stored-new emptyRecord n (zoneAt r n) empty-record-sound (zo
 alone-there : (r : Record) (n : ℕ) → sound r ≡ true → zoneAt r n ≡ zoneAt (alone r n) n
 alone-there r n s = by-place (ltb n 16) refl
   where
-    past : (x : Record) → sound x ≡ true → 16 ≤ n → zoneAt x n ≡ emptyZone
-    past x p h = List·getD-eq-default (x .zones) emptyZone {n = n} (omega (arith, sound-parts x p .sixteen, h))
-
     by-place : (t : Bool) → ltb n 16 ≡ t → zoneAt r n ≡ zoneAt (alone r n) n
     by-place true e = sym (stored-there emptyRecord n (zoneAt r n) empty-record-sound (ltb-true n 16 e))
-    by-place false e = past r s (ltb-false n 16 e) ∙ sym (past (alone r n) (alone-sound r n s) (ltb-false n 16 e))
+    by-place false e = past-empty r n s (ltb-false n 16 e) ∙ sym (past-empty (alone r n) n (alone-sound r n s) (ltb-false n 16 e))
 
 pub unplugged : Unplugged
 unplugged r n xs s = even-from-another r (alone r n) n xs (s ∙ sym (alone-sound r n s)) (alone-there r n s)

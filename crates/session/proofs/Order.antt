@@ -2,11 +2,11 @@
 use Prim.Native.Nat.{ℕ}
 use mathlib.Core.Path.{_≡_, refl, sym, ap, _∙_, subst}
 use mathlib.Core.Logic.{inl, inr}
-use mathlib.Core.Bool.{false, not, _&&_, _||_}
+use mathlib.Core.Bool.{false, not, _||_}
 use mathlib.Core.List.{List, [], _∷_, map}
 use native.Mathlib.Omega.{arith}
-use lib.Dec.{leb, eqb}
-use lib.Seq.{set-set, set-comm, getD-set-other}
+use lib.Dec.{leb}
+use lib.Seq.{set-set, set-comm}
 use borrow.Author.Tests.{lt-leb}
 use Rattle.zone.specs.declared.figures.Group.{Group}
 use Rattle.zone.specs.declared.figures.Figures.{Figures}
@@ -15,7 +15,7 @@ use Rattle.zone.specs.declared.figures.Command.the-variants.{Read, Write}
 use Rattle.zone.specs.declared.status.Status.{Status}
 use Rattle.zone.specs.declared.zones.Zone.{Zone}
 use Rattle.zone.specs.Figures.{groupOf}
-use Rattle.zone.specs.Zones.{emptyZone, figuresOf, withFigures}
+use Rattle.zone.specs.Zones.{figuresOf, withFigures}
 use Rattle.zone.specs.Rules.{SameHead, SetsFigures}
 use Rattle.zone.proofs.Tests.{never}
 use Rattle.zone.proofs.Written.{sets-figures}
@@ -39,6 +39,7 @@ use Rattle.session.proofs.Answering.{record-kept, by-done}
 use Rattle.session.proofs.Done.{line-is-done, frame-is-done}
 use Rattle.session.proofs.Changes.{by-zone, text-after, frame-after, after-of, command-is}
 use Rattle.session.proofs.Demand3.{stays-sound}
+use Rattle.session.proofs.Demand1.{same-holder}
 use Rattle.session.proofs.Standing.{has-former, has-latter}
 use Rattle.session.proofs.Reordered.{may-be-reordered}
 
@@ -102,7 +103,7 @@ pub touches : (r : Record) (x : Input) (m : ℕ) → (m ≡ goesTo r x → ⊥) 
 touches r (on-port n line room) m u = text-touches r n line room m u
 touches r (on-pair bytes room) m u = frame-touches r bytes room m u
 
--- every other input leaves the record as it was: a refused one, and a read
+-- an input that stores nothing leaves the record as it was: a refused one, and a read
 abbrev pub Idle : Record → Input → Type 0
 Idle r x = (f : Figures) → Stores r x f → ⊥
 
@@ -188,7 +189,7 @@ same-sound r x = by-effect (effect r x)
 pub zones-stay : ZonesStay
 zones-stay r x = record {
   there = λ n i. leb 16 n || not (head-stays r x n .present i);
-  held = λ address. find-alike (next r x) r address (λ m. let k = head-stays r x m in λ i. k .present i && eqb (k .address i) address);
+  held = λ address. find-alike (next r x) r address (λ m. same-holder address (head-stays r x m));
 }
 
 judges-alike : (r : Record) (x : Input) (m : ℕ) → JudgesAlike (zoneAt r m) (zoneAt (next r x) m)
@@ -239,13 +240,13 @@ module _ (r : Record) (y : Input) where
 done-alike : (r s : Record) (x : Input) → heard s x ≡ heard r x → Done r (sent x) → Done s (sent x)
 done-alike r s x e d = ap (λ (h : Heard). h .said .number) e ∙ d
 
--- what stores nothing at one stores nothing at the other either, and leaves it as it is
-pub idle-too : (r s : Record) (x : Input) → heard s x ≡ heard r x → Idle r x → next s x ≡ s
-idle-too r s x e u = idle-kept s x (λ f t. u f (record { is-write = t .is-write; done = done-alike s r x (sym e) (t .done) }))
-
--- and what stores figures at one stores them at the other
+-- what stores figures at one stores them at the other
 pub stores-too : (r s : Record) (x : Input) (f : Figures) → heard s x ≡ heard r x → Stores r x f → Stores s x f
 stores-too r s x f e t = record { is-write = t .is-write; done = done-alike r s x e (t .done) }
+
+-- and what stores nothing at one stores nothing at the other either, and leaves it as it is
+pub idle-too : (r s : Record) (x : Input) → heard s x ≡ heard r x → Idle r x → next s x ≡ s
+idle-too r s x e u = idle-kept s x (λ f t. u f (stores-too s r x f (sym e) t))
 
 -- ---- two of them
 
@@ -270,7 +271,7 @@ each-its-own : (r : Record) (x y : Input) (f g : Figures) → heard (next r x) y
 each-its-own r x y f g e s t u =
     let n = goesTo r x in
     let m = goesTo r y in
-    let same : zoneAt (storedBy r n f) m ≡ zoneAt r m = getD-set-other (r .zones) n m (withFigures (zoneAt r n) f) emptyZone (λ q. u (sym q)) in
+    let same : zoneAt (storedBy r n f) m ≡ zoneAt r m = ap (λ (a : Record). zoneAt a m) (sym (stores-left r x f s)) ∙ touches r x m (λ q. u (sym q)) in
     stores-behind r y x g e t ∙ ap (λ (a : Record). storedBy a m g) (stores-left r x f s) ∙ ap (λ (z : Zone). withZone (storedBy r n f) m (withFigures z g)) same
 
 pub others-commute : OthersCommute
@@ -340,7 +341,7 @@ the-last-stands r x y f g p q o d = by-effect (effect r x)
     second = same-heard r x y (λ d h e. absurd (read-or-write (sym e ∙ q)))
 
     stored : Stores r y g
-    stored = record { is-write = q; done = done-alike (next r x) r y (sym second) d }
+    stored = stores-too (next r x) r y g (sym second) (record { is-write = q; done = d })
 
     by-effect : Effect r x → (next (next r x) y ≡ next r y) × (heard (next r x) y ≡ heard r y)
     by-effect (idle u) = (ap (λ (s : Record). next s y) (idle-kept r x u), second)

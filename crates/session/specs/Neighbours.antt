@@ -18,7 +18,7 @@ use Rattle.session.specs.Inputs.{Input, on-port, on-pair, next, heard, l
 
 -- ---- "Strike out all text for other zones and all frames that don't carry zone 3's address."
 
--- what is for zone n: the text of its port, and the frames that carry its address, whatever they are answered. These are of document 01's shape, and zone n, present, holds their address in r, which of a session is the record at the start.
+-- what is for zone n: the text of its port, and the frames that carry its address, whatever they are answered. A frame does if it is of document 01's shape and zone n is present in r with the frame's address; of a session, r is the record at the start.
 -- So where the zone is absent no frame is for it; and bytes of another shape carry no address, whatever the fifth of them is
 abbrev pub isFor : Record → ℕ → Input → Bool
 isFor r n (on-port zone line room) = eqb zone n
@@ -41,7 +41,7 @@ NeighboursDoNotDisturb = (r : Record) (n : ℕ) (xs : List Input) → SameFor n 
 
 -- ---- why it holds
 
--- What a line or a frame does at zone n hangs on zone n and on soundness alone: of two records, both sound or neither, that have the zone in common, and perhaps nothing else
+-- What a line or a frame does at zone n hangs on zone n and on soundness alone. Take two records, both sound or neither, that have zone n in common, and perhaps nothing else:
 pub record AtTheZone (r r′ : Record) (n : ℕ) (x : Input) : Type 0 where
   -- the zone is left the same
   pub zone : zoneAt (next r x) n ≡ zoneAt (next r′ x) n
@@ -109,7 +109,7 @@ LeavesOthers = (r : Record) (n m : ℕ) (xs : List Input) → sound r ≡ true �
 abbrev pub two : Record
 two = withZone (withZone emptyRecord 3 (newZone 35 300)) 4 (newZone 36 300)
 
--- a frame that reads HZBG, the same with byte 7, its checksum, made 0, and five bytes that are no frame, each with room of 32 bytes
+-- a frame that reads HZBG, the same with its eighth byte, the checksum, made 0, and five bytes that are no frame, each with room of 32 bytes
 abbrev pub frameTo : ℕ → Input
 frameTo address = on-pair (frameOf address (Read Hzbg)) (replicate 32 0)
 
