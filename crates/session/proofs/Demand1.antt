@@ -103,6 +103,7 @@ meets-silence r f room u =
 abbrev Unheld : ℕ → Record → Type 0
 Unheld a r = (m : ℕ) → holds a (zoneAt r m) ≡ false
 
+-- a zone that keeps its head holds an address as before
 pub same-holder : (a : ℕ) {before after : Zone} → SameHead before after → holds a after ≡ holds a before
 same-holder a s = λ i. s .present i && eqb (s .address i) a
 

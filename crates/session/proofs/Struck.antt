@@ -1,4 +1,4 @@
--- A session and what stays of it where a part is struck out, for any kinds of calls. Assumes nothing.
+-- A session and what remains of it where a part is struck out, for any kinds of calls. Assumes nothing.
 use mathlib.Core.Path.{_≡_, refl, ap}
 use mathlib.Core.Bool.{Bool, true, false}
 use mathlib.Core.List.{List, [], _∷_}
@@ -19,7 +19,7 @@ module _ {C A : Type 0} (out : C → Bool) (step : Record → C → Record) (ans
           let others = rest (step r x) (step r′ x) (same .1) in
           record { answers = rw e (λ i. (x, same .0 i) ∷ others .answers i); left = rw e (others .left) }
 
--- where out strikes out whatever less does, it may strike it out of what less has left
+-- what strikes out all that less does, and perhaps more, comes to the same behind less as by itself
 pub strike-again : {A : Type 0} (less out : A → Bool) (xs : List A) → ((x : A) → less x ≡ true → out x ≡ true) → strike out (strike less xs) ≡ strike out xs
 strike-again less out [] h = refl
 strike-again {A = A} less out (x ∷ xs) h = by-test (less x) (out x) refl refl (strike-again less out xs h)
