@@ -1,6 +1,6 @@
 -- How a call at a zone comes to the definition's result. Assumes nothing.
 use Prim.Native.Nat.{ℕ, _<_}
-use mathlib.Core.Path.{_≡_, refl, ap, _∙_}
+use mathlib.Core.Path.{_≡_, refl, sym, ap, _∙_}
 use mathlib.Core.Bool.{Bool, true, false, cond, not}
 use mathlib.Core.List.{List, [], _∷_}
 use native.Mathlib.Omega.{arith}
@@ -11,10 +11,12 @@ use Rattle.zone.specs.declared.figures.Figures.{Figures}
 use Rattle.zone.specs.declared.zones.Zone.{Zone}
 use Rattle.zone.specs.Lists.{isZero}
 use Rattle.zone.specs.Zones.{emptyZone}
-use Rattle.zone.proofs.Tests.{neither}
+use Rattle.zone.proofs.Tests.{never, neither}
 use Rattle.card.specs.declared.answers.Refusal.{Refusal}
 use Rattle.card.specs.declared.answers.Refusal.the-variants.{NotSound, NoZone}
 use Rattle.card.specs.declared.judgements.Asked.the-variants.{Failed}
+use Rattle.card.specs.declared.judgements.Verdict.{Verdict}
+use Rattle.card.specs.declared.judgements.Verdict.the-variants.{Refuses, Tells, Writes, Reports, Adds, Removes, Chooses, Rebooks}
 use Rattle.card.specs.declared.records.Reached.{Reached}
 use Rattle.card.specs.declared.records.Reached.the-variants.{There, Stopped}
 use Rattle.card.specs.declared.records.Record.{Record}
@@ -22,11 +24,22 @@ use Rattle.card.specs.Answers.{Result, refusalNumber}
 use Rattle.card.specs.Refusals.{Row, first, settled, _gives_}
 use Rattle.card.specs.Records.{zoneAt, withZone, sound, noZone}
 use Rattle.card.specs.Calls.{Judgement, atZone}
-use Rattle.card.specs.Inner.{reachOf, judged, stored, askAt}
+use Rattle.card.specs.Inner.{altersBy, afterBy, reachOf, judged, stored, askAt}
 
 -- to store the zone that stands there already is to store nothing
 pub same-zone : (r : Record) (n : ℕ) → withZone r n (zoneAt r n) ≡ r
 same-zone r n = ap (λ (zs : List Zone). record { zones = zs }) (set-getD (r .zones) n emptyZone)
+
+-- a verdict that does not alter the zone leaves the record as it is
+pub unaltered : (r : Record) (n : ℕ) (v : Verdict) → altersBy v ≡ false → withZone r n (afterBy v (zoneAt r n)) ≡ r
+unaltered r n (Refuses why) h = same-zone r n
+unaltered r n (Tells figures) h = same-zone r n
+unaltered r n (Writes figures) h = never (sym h)
+unaltered r n (Reports status) h = never (sym h)
+unaltered r n (Adds address range) h = never (sym h)
+unaltered r n Removes h = never (sym h)
+unaltered r n (Chooses origin) h = never (sym h)
+unaltered r n (Rebooks kilograms) h = never (sym h)
 
 -- what the zone decides, stored, is what the record decides by the same refusals
 pub stored-settled : (r : Record) (n : ℕ) (rows : List Row) (values : List Figures) (z : Zone)

@@ -8,7 +8,7 @@ use lib.ListN.{getD}
 use Rattle.zone.specs.declared.figures.Command.{Command}
 use Rattle.zone.specs.declared.sources.Source.{Source}
 use Rattle.card.specs.declared.answers.Refusal.{Refusal}
-use Rattle.card.specs.declared.answers.Refusal.the-variants.{NoRoom, NotSound, NoZone, NoFrame, NobodyHolds, Checksum, Unknown, Syntax, OutOfRange, Locked, AddressHeld, AlreadyPresent, Unreadable, StillBooked, BadAmount, SameZone}
+use Rattle.card.specs.declared.answers.Refusal.the-variants.{NoRoom, NotSound, NoZone, NoFrame, NobodyHolds, Checksum, Unknown, Syntax, OutOfRange, Locked, AddressHeld, AlreadyPresent, Unreadable, NoRecipe, StillBooked, BadAmount, SameZone}
 use Rattle.card.specs.declared.answers.Answer.{Answer}
 use Rattle.card.specs.declared.answers.Answer.the-variants.{Done, Told, Refused}
 use Rattle.card.specs.declared.records.Record.{Record}
@@ -32,12 +32,12 @@ use Rattle.card.proofs.records.Record.repair.Reads as repair
 
 -- ---- number and values tell the answer
 
--- the answer that a number alone names; 14 is no number of the table
+-- the answer that a number alone names
 named : ℕ → Answer
 named n =
     getD
     (Done ∷ Refused NoRoom ∷ Refused NotSound ∷ Refused NoZone ∷ Refused NoFrame ∷ Refused NobodyHolds ∷ Refused Checksum ∷ Refused Unknown ∷ Refused Syntax
-    ∷ Refused OutOfRange ∷ Refused Locked ∷ Refused AddressHeld ∷ Refused AlreadyPresent ∷ Refused Unreadable ∷ Done ∷ Refused StillBooked ∷ Refused BadAmount ∷ Refused SameZone ∷ [])
+    ∷ Refused OutOfRange ∷ Refused Locked ∷ Refused AddressHeld ∷ Refused AlreadyPresent ∷ Refused Unreadable ∷ Refused NoRecipe ∷ Refused StillBooked ∷ Refused BadAmount ∷ Refused SameZone ∷ [])
     n
     Done
 
@@ -56,6 +56,7 @@ named-again Locked = refl
 named-again AddressHeld = refl
 named-again AlreadyPresent = refl
 named-again Unreadable = refl
+named-again NoRecipe = refl
 named-again StillBooked = refl
 named-again BadAmount = refl
 named-again SameZone = refl

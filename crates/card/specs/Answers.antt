@@ -1,9 +1,9 @@
--- Document 01's table of answer numbers, with 15 to 17 of document 02 (14 is that of a request which is not met yet), and what is seen of an answer: its number, its values and what is handed back.
+-- Document 01's table of answer numbers, with 14 to 17 of document 02, and what is seen of an answer: its number, its values and what is handed back.
 use Prim.Native.Nat.{ℕ}
 use mathlib.Core.List.{List, [], _∷_}
 use Rattle.zone.specs.declared.figures.Figures.{Figures}
 use Rattle.card.specs.declared.answers.Refusal.{Refusal}
-use Rattle.card.specs.declared.answers.Refusal.the-variants.{NoRoom, NotSound, NoZone, NoFrame, NobodyHolds, Checksum, Unknown, Syntax, OutOfRange, Locked, AddressHeld, AlreadyPresent, Unreadable, StillBooked, BadAmount, SameZone}
+use Rattle.card.specs.declared.answers.Refusal.the-variants.{NoRoom, NotSound, NoZone, NoFrame, NobodyHolds, Checksum, Unknown, Syntax, OutOfRange, Locked, AddressHeld, AlreadyPresent, Unreadable, NoRecipe, StillBooked, BadAmount, SameZone}
 use Rattle.card.specs.declared.answers.Answer.{Answer}
 use Rattle.card.specs.declared.answers.Answer.the-variants.{Done, Told, Refused}
 use Rattle.card.specs.declared.records.Record.{Record}
@@ -37,6 +37,8 @@ refusalNumber AddressHeld = 11
 refusalNumber AlreadyPresent = 12
 -- "log line unreadable (the program only)"
 refusalNumber Unreadable = 13
+-- document 02, Req 01: "14 for more than 64 lines or a line without its zone and tab"
+refusalNumber NoRecipe = 14
 -- document 02, Req 07, none of which has a reply: "15 for removing a zone with kilograms on it"
 refusalNumber StillBooked = 15
 -- "16 for booking or shipping 0, more than is held when shipping, or a result above the limit"

@@ -22,8 +22,8 @@ use Rattle.roads.proofs.CallLaws.{bad-sum, right-sum}
 use Rattle.roads.proofs.Lengths.{text-fits}
 use Rattle.journal.specs.declared.asking.Entry.{Entry}
 use Rattle.texts.specs.Numbers.{decimalOf, digitRead, byteRead, bytesRead}
-use Rattle.texts.specs.Texts.{tab, field, onward, orDash}
-use Rattle.journal.specs.Lines.{Asks, adds, removes, reports, says, frames, unreadable, N, X, M, T, F, decimals, addAsks, removeAsks, reportAsks, textTo, textAsks, bytesAsk, frameAsks, tooLong, shortAsks, asksOf}
+use Rattle.texts.specs.Texts.{tab, field, onward, zonedBy, zoned, orDash}
+use Rattle.journal.specs.Lines.{Asks, adds, removes, reports, says, frames, unreadable, N, X, M, T, F, decimals, addAsks, removeAsks, reportAsks, zonedAsks, textAsks, bytesAsk, frameAsks, tooLong, shortAsks, asksOf}
 use Rattle.journal.specs.Journal.{outputLine}
 use Rattle.journal.specs.Inner.{entryOf, letterOf, frameReplied, replyOf, outputOf}
 use Rattle.journal.proofs.Outputs.{decimal-fits, framed-fits}
@@ -57,12 +57,12 @@ reports-least none = refl
 reports-least (are ns) = refl
 
 -- a decimal has a digit, and a tab stands behind it
-text-to : (digits rest : List ℕ) → least (textTo (decimalOf digits) rest) ≤ 2 + (length digits + length rest)
+text-to : (digits rest : List ℕ) → least (zonedAsks (zonedBy (decimalOf digits) rest)) ≤ 2 + (length digits + length rest)
 unfolding decimalOf
 text-to [] rest = omega arith
 text-to (d ∷ digits) rest = by-zone (decimalOf (d ∷ digits)) rest
   where
-    by-zone : (zone : Figure) (rest : List ℕ) → least (textTo zone rest) ≤ 2 + (length (d ∷ digits) + length rest)
+    by-zone : (zone : Figure) (rest : List ℕ) → least (zonedAsks (zonedBy zone rest)) ≤ 2 + (length (d ∷ digits) + length rest)
     by-zone Bad rest = omega arith
     by-zone (Value n) [] = omega arith
     by-zone (Value n) (x ∷ line) = omega arith
@@ -71,9 +71,9 @@ in-two : (l : List ℕ) → length (field l) + length (onward l) ≡ length l
 in-two l = sym (length-append (field l) (onward l)) ∙ rw (take-append-drop (indexOf tab l) l)
 
 text-least : (l : List ℕ) → least (textAsks l) ≤ 1 + length l
-unfolding textAsks
+unfolding textAsks zoned
 text-least [] = omega arith
-text-least (x ∷ l) = either (eqb x tab) (textTo (decimalOf (field l)) (onward l)) unreadable (1 + length (x ∷ l)) (omega (arith, text-to (field l) (onward l), in-two l)) (omega arith)
+text-least (x ∷ l) = either (eqb x tab) (zonedAsks (zoned l)) unreadable (1 + length (x ∷ l)) (omega (arith, text-to (field l) (onward l), in-two l)) (omega arith)
 
 -- two digits a byte
 digits-least : (digits : List ℕ) → least (bytesAsk (bytesRead digits)) ≤ 2 + length digits

@@ -25,7 +25,7 @@ use Rattle.roads.specs.Calls.{answerText, answerFrame}
 use Rattle.session.specs.Sessions.{run}
 use Rattle.texts.specs.Numbers.{decimalOf, bytesRead, inHex}
 use Rattle.journal.specs.Lines.{Asks, adds, removes, reports, says, frames, unreadable, decimals, textAsks, frameAsks, asksOf}
-use Rattle.texts.specs.Texts.{lineFeed, endedBehind, begunBehind, ended, begun, unended, linesOf}
+use Rattle.texts.specs.Texts.{lineFeed, endedBehind, begunBehind, ended, begun, unended, linesOf, zoned}
 use Rattle.journal.specs.Journal.{Yield, yieldOf, lineYields, linesYield, callOf, callsIn}
 use Rattle.journal.specs.Blocks.{logOf, fed, closed, blocksYield, joined}
 use Rattle.journal.specs.Rules.{CutAnywhere, LogIsSession}
@@ -159,7 +159,7 @@ caseOut =
     ++ ascii "F\t5\t-\n"
 
 pub whole-case : logOf caseIn ≡ caseOut
-unfolding indexOf inRange eachInRange allZero zoneSound zoneOtherwiseSound differ sound findFrom addOf removeOf formRead writeRead upToSpace digitsBehind figureOf same groupNamed lineRead sumOf groupIndexed bodyRead textReply frameReply answerText answerFrame decimalOf bytesRead inHex decimals textAsks frameAsks asksOf lineYields linesYield endedBehind begunBehind logOf
+unfolding indexOf inRange eachInRange allZero zoneSound zoneOtherwiseSound differ sound findFrom addOf removeOf formRead writeRead upToSpace digitsBehind figureOf same groupNamed lineRead sumOf groupIndexed bodyRead textReply frameReply answerText answerFrame decimalOf bytesRead inHex decimals zoned textAsks frameAsks asksOf lineYields linesYield endedBehind begunBehind logOf
 whole-case = refl
 
 -- "A last line may lack its line end"

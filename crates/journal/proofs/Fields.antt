@@ -1,9 +1,8 @@
 -- Laws of a line, as its readers cite them: a decimal behind a tab and what follows it, a triple, a command's text, a frame's digits, the letter. Assumes nothing.
 use mathlib.Core.Path.{_≡_, refl, _∙_}
 use mathlib.Core.List.{List, [], _∷_}
-use Prim.Native.Nat.{ℕ, suc, _+_, _-_, _≤_, _<_}
+use Prim.Native.Nat.{ℕ, suc, _-_, _≤_, _<_}
 use native.Mathlib.Omega.{arith}
-use native.Mathlib.Numerals.{add-one}
 use lib.ListN.{length, getD, take, drop, length-drop, drop-of-length-le}
 use lib.Seq.{drop-cons}
 use borrow.Rule.Slice.PartAt.{part-to-end}
@@ -14,8 +13,8 @@ use Rattle.wire.specs.Road.{Numbers, are, none, join}
 use Rattle.texts.specs.declared.decimals.Numeral.the-variants as numeral
 use Rattle.journal.specs.declared.asking.Triple.the-variants as triple
 use Rattle.texts.specs.Numbers.{bytesRead}
-use Rattle.texts.specs.Texts.{tab}
-use Rattle.journal.specs.Lines.{adds, reports, says, unreadable, decimals, addAsks, reportAsks, textTo, textAsks, bytesAsk, frameAsks, letterAsks, asksOf}
+use Rattle.texts.specs.Texts.{tab, zoned}
+use Rattle.journal.specs.Lines.{adds, reports, unreadable, decimals, addAsks, reportAsks, zonedAsks, textAsks, bytesAsk, frameAsks, letterAsks, asksOf}
 use Rattle.texts.specs.Inner.{numeralAt}
 use Rattle.journal.specs.Inner.{tripleOf}
 use Rattle.texts.proofs.Fields.{opened, behind}
@@ -62,23 +61,23 @@ reports-triple none zone state actual h = cc
 reports-triple (are ns) zone state actual h = cc
 
 -- a command's text
-text-opened : (d : List ℕ) → textAsks d ≡ opened textTo d
+pub text-short : (l : List ℕ) → length l < 2 → textAsks (drop 1 l) ≡ unreadable
 unfolding textAsks
-text-opened [] = refl
-text-opened (x ∷ d) = refl
+text-short l h =
+    let k : length l ≤ 1 = omega arith in
+    rw (drop-of-length-le l k)
 
-pub text-nowhere : (l : List ℕ) (at : ℕ) → numeralAt l at ≡ numeral.Bad → textAsks (drop at l) ≡ unreadable
-text-nowhere l at h = text-opened (drop at l) ∙ behind textTo (λ d. refl) l at ∙ rw h
+pub text-untabbed : (l : List ℕ) → 2 ≤ length l → (getD l 1 0 ≡ tab → ⊥) → textAsks (drop 1 l) ≡ unreadable
+unfolding textAsks
+text-untabbed l h q =
+    let k : 1 < length l = omega arith in
+    rw (drop-cons l 1 0 k, ne-eqb (getD l 1 0) tab q)
 
-text-to : (l : List ℕ) (at zone e : ℕ) → numeralAt l at ≡ numeral.Is zone e → textAsks (drop at l) ≡ textTo (Value zone) (drop e l)
-text-to l at zone e h = text-opened (drop at l) ∙ behind textTo (λ d. refl) l at ∙ rw h
-
-pub no-text : (l : List ℕ) (at zone e : ℕ) → numeralAt l at ≡ numeral.Is zone e → length l ≤ e → textAsks (drop at l) ≡ unreadable
-no-text l at zone e h k = text-to l at zone e h ∙ rw (drop-of-length-le l k)
-
-pub text-behind : (l : List ℕ) (at zone e : ℕ) → numeralAt l at ≡ numeral.Is zone e → e < length l
-    → textAsks (drop at l) ≡ says zone (drop (e + 1) l)
-text-behind l at zone e h k = text-to l at zone e h ∙ rw (add-one, drop-cons l e 0 k)
+pub text-zoned : (l : List ℕ) → 2 ≤ length l → getD l 1 0 ≡ tab → textAsks (drop 1 l) ≡ zonedAsks (zoned (drop 2 l))
+unfolding textAsks
+text-zoned l h q =
+    let k : 1 < length l = omega arith in
+    rw (drop-cons l 1 0 k, eq-eqb (getD l 1 0) tab q)
 
 -- a frame's digits
 pub frame-short : (l : List ℕ) → length l < 2 → frameAsks (drop 1 l) ≡ unreadable

@@ -1,14 +1,13 @@
 -- What is judged at the one zone that is looked at is what the call comes to on the record. Assumes nothing.
 use Prim.Native.Nat.{ℕ, _<_}
 use mathlib.Core.Path.{_≡_, refl, sym, ap, _∙_}
-use mathlib.Core.Bool.{Bool, true, false, cond, not}
+use mathlib.Core.Bool.{Bool, true, false, not}
 use mathlib.Core.List.{List, [], _∷_}
 use native.Mathlib.Omega.{arith}
 use lib.ListN.{length, drop}
 use lib.Seq.{take-append-seam}
 use lib.Dec.{leb}
-use borrow.Author.Tests.{leb-true, leb-false, lt-ltb, le-ltb}
-use Rattle.zone.specs.declared.figures.Figures.{Figures}
+use borrow.Author.Tests.{leb-false, lt-ltb}
 use Rattle.zone.specs.declared.zones.Zone.{Zone}
 use Rattle.zone.specs.Zones.{newZone}
 use Rattle.zone.proofs.Tests.{neither}
@@ -16,27 +15,27 @@ use Rattle.card.specs.declared.answers.Refusal.the-variants as refusal
 use Rattle.card.specs.declared.judgements.Asked.{Asked}
 use Rattle.card.specs.declared.judgements.Asked.the-variants.{Failed}
 use Rattle.card.specs.declared.judgements.Verdict.{Verdict}
-use Rattle.card.specs.declared.judgements.Verdict.the-variants.{Refuses, Tells, Writes, Reports, Adds, Removes, Chooses, Rebooks}
+use Rattle.card.specs.declared.judgements.Verdict.the-variants.{Refuses}
 use Rattle.card.specs.declared.records.Record.{Record}
 use Rattle.card.specs.declared.records.Found.{Found}
 use Rattle.card.specs.declared.records.Found.the-variants.{At, Nowhere}
 use Rattle.card.specs.Answers.{Result, numberOf, valuesOf}
-use Rattle.card.specs.Refusals.{Row, _gives_, settled}
+use Rattle.card.specs.Refusals.{_gives_, settled}
 use Rattle.card.specs.Records.{zoneAt, withZone, heldIn, sound, findOf, noZone}
-use Rattle.card.specs.Calls.{Judgement, addAt, addOf, removeAt, removeOf, reportAt, reportOf, atZone}
-use Rattle.card.specs.Inner.{answerBy, altersBy, afterBy, verdictSeen, judged, stored, askAt, askOf}
+use Rattle.card.specs.Calls.{addAt, addOf, removeAt, removeOf, reportAt, reportOf}
+use Rattle.card.specs.Inner.{answerBy, afterBy, verdictSeen, judged, stored, askAt, askOf}
 use Rattle.card.proofs.Scans.{found-somewhere, found-nowhere}
 use Rattle.card.proofs.Found.{found-there}
-use Rattle.card.proofs.Inner.{same-zone, stored-settled}
-use Rattle.wire.specs.declared.Parsed.{Parsed}
+use Rattle.card.proofs.Inner.{stored-settled}
 use Rattle.line.specs.Line.{lineRead}
 use Rattle.frame.specs.declared.reading.Framed.{Framed}
 use Rattle.frame.specs.declared.reading.Framed.the-variants.{NoFrame, BadSum, Request}
 use Rattle.frame.specs.Frame.{shaped, bodyIn, addressIn, bodyRead, frameRead}
 use Rattle.roads.specs.Acknowledgements.{textReply, frameReply}
 use Rattle.roads.specs.Calls.{isNowhere, zoneFound, holder, resultAt, textResult, frameResult, answerText, answerFrame}
-use Rattle.roads.specs.Inner.{askedBy}
+use Rattle.roads.specs.Inner.{oneOfSixteen, unless, askedBy}
 use Rattle.roads.proofs.CallLaws.{asked-text, no-shape, bad-sum, right-sum, held-sum, held-right}
+use Rattle.roads.proofs.Judged.{at, by-number, one-below, above, zone-at, text-at}
 use Rattle.session.specs.Sessions.{text, frame, add, remove, report, inRoom, quiet}
 use Rattle.session.proofs.Demand3.{stays-sound}
 use Rattle.journal.specs.declared.asking.Entry.{Entry}
@@ -44,7 +43,7 @@ use Rattle.journal.specs.declared.asking.Entry.the-variants.{Add, Remove
 use Rattle.texts.specs.Numbers.{inHex}
 use Rattle.journal.specs.Lines.{F, Asks, adds, removes, reports, says, frames, unreadable, asksOf}
 use Rattle.journal.specs.Journal.{lent, outputLine, Yield, yieldOf, lineYields}
-use Rattle.journal.specs.Inner.{entryOf, frameSought, soughtOf, lookUp, oneOfSixteen, placeOf, missing, unless, askedOfHolder, askedFramed, entryJudged, unfitOf, frameReplied, outputOf}
+use Rattle.journal.specs.Inner.{entryOf, frameSought, soughtOf, lookUp, placeOf, askedOfHolder, askedFramed, entryJudged, unfitOf, frameReplied, outputOf}
 
 -- where the record is not sound, every readable line is refused for that
 pub unfit-judged : (fit : Bool) (entry : Entry) (found : Found) (z : Zone) → not fit ≡ true → verdictSeen z (Refuses (unfitOf entry)) ≡ judged z (entryJudged fit entry found z)
@@ -58,14 +57,6 @@ unfit-judged false Unreadable found z h = refl
 
 -- ---- the zone that is looked at
 
--- by whether the number names a zone: then it is that one
-by-number : (n : ℕ) (P : Type 0) → (n < 16 → leb 16 n ≡ false → oneOfSixteen n ≡ n → P) → (leb 16 n ≡ true → oneOfSixteen n ≡ 15 → P) → P
-by-number n P below above = by-test (leb 16 n) refl
-  where
-    by-test : (t : Bool) → leb 16 n ≡ t → P
-    by-test true e = above e (rw (le-ltb n 16 (leb-true 16 n e)))
-    by-test false e = let h : n < 16 = leb-false 16 n e in below h e (rw (lt-ltb n 16 h))
-
 -- an addition: its address is held where it was found
 held-found : (r : Record) (address : ℕ) → heldIn (r .zones) address ≡ not (isNowhere (findOf r address))
 held-found r address = by-found (findOf r address) refl
@@ -73,16 +64,6 @@ held-found r address = by-found (findOf r address) refl
     by-found : (f : Found) → findOf r address ≡ f → heldIn (r .zones) address ≡ not (isNowhere f)
     by-found (At n) e = sym (found-somewhere (r .zones) address n e)
     by-found Nowhere e = sym (found-nowhere (r .zones) address e)
-
--- the result of a judgement at zone p of the record
-abbrev at : Record → ℕ → Judgement → Result Record
-at r p j = settled r (j .rows) (j .values) (withZone r p (j .after))
-
--- a number above 15: 3, or 2 where the record is not sound, whatever else is asked
-above : (r : Record) (s : Bool) (rows rows′ : List Row) (values values′ : List Figures) (after after′ : Record)
-    → settled r ((not s gives 2) ∷ (true gives 3) ∷ rows) values after ≡ settled r ((not s gives 2) ∷ (true gives 3) ∷ rows′) values′ after′
-above r true rows rows′ values values′ after after′ = refl
-above r false rows rows′ values values′ after after′ = refl
 
 add-at : (r : Record) (n address range : ℕ) → addOf r n address range ≡ at r (oneOfSixteen n) (entryJudged (sound r) (Add n address range) (findOf r address) (zoneAt r (oneOfSixteen n)))
 unfolding addOf
@@ -93,27 +74,6 @@ add-at r n address range =
     let held = not (isNowhere (findOf r address)) in
     let new = newZone address range in
     rw (e, q) (above r (sound r) (addAt (zoneAt r n) address range held .rows) (addAt (zoneAt r 15) address range held .rows) [] [] (withZone r n new) (withZone r 15 new))))
-
--- a call at a present zone, as the line names it
-zone-at : (r : Record) (n : ℕ) (j : Zone → Judgement)
-    → atZone r n (j (zoneAt r n)) ≡ at r (oneOfSixteen n) (unless ((not (sound r) gives 2) ∷ (missing (zoneAt r (oneOfSixteen n)) n gives 3) ∷ []) (j (zoneAt r (oneOfSixteen n))))
-zone-at r n j =
-    by-number n _ (λ h e q. rw (e, q))
-    (λ e q. rw (e, q) (above r (sound r) (j (zoneAt r n) .rows) (j (zoneAt r 15) .rows) (j (zoneAt r n) .values) (j (zoneAt r 15) .values) (withZone r n (j (zoneAt r n) .after)) (withZone r 15 (j (zoneAt r 15) .after))))
-
--- the same where the missing zone is a refusal that the line meets with before it reaches the zone
-text-at : (r : Record) (n : ℕ) (parsed : Parsed)
-    → askOf r n (askedBy parsed) ≡ at r (oneOfSixteen n) (entryJudged (sound r) (Text n parsed) Nowhere (zoneAt r (oneOfSixteen n)))
-unfolding askOf
-text-at r n parsed = zone-at r n (λ z. askAt z (askedBy parsed)) ∙ by-missing (missing (zoneAt r (oneOfSixteen n)) n) (sound r)
-  where
-    by-missing : (t s : Bool)
-        → at r (oneOfSixteen n) (unless ((not s gives 2) ∷ (t gives 3) ∷ []) (askAt (zoneAt r (oneOfSixteen n)) (askedBy parsed)))
-        ≡ at r (oneOfSixteen n) (unless ((not s gives 2) ∷ []) (askAt (zoneAt r (oneOfSixteen n)) (cond t (Failed refusal.NoZone) (askedBy parsed))))
-    by-missing true true = refl
-    by-missing true false = refl
-    by-missing false true = refl
-    by-missing false false = refl
 
 -- ---- a frame
 
@@ -246,17 +206,6 @@ line-turn r line fit v f e =
     let e′ : verdictSeen (zoneAt r p) v ≡ judged (zoneAt r p) j = rw f at e in
     came r (asksOf line) ∙ ap (λ (o : Result Record). yieldBy entry o) (sym (stored-settled r p (j .rows) (j .values) (j .after)) ∙ ap (stored r p) (sym e′))
 
--- a verdict that does not alter the zone leaves the record as it is
-pub unaltered : (r : Record) (n : ℕ) (v : Verdict) → altersBy v ≡ false → withZone r n (afterBy v (zoneAt r n)) ≡ r
-unaltered r n (Refuses why) h = same-zone r n
-unaltered r n (Tells figures) h = same-zone r n
-unaltered r n (Writes figures) h = absurd (let z : _≡_ {A = ℕ} 0 1 = cc in omega arith)
-unaltered r n (Reports status) h = absurd (let z : _≡_ {A = ℕ} 0 1 = cc in omega arith)
-unaltered r n (Adds address range) h = absurd (let z : _≡_ {A = ℕ} 0 1 = cc in omega arith)
-unaltered r n Removes h = absurd (let z : _≡_ {A = ℕ} 0 1 = cc in omega arith)
-unaltered r n (Chooses origin) h = absurd (let z : _≡_ {A = ℕ} 0 1 = cc in omega arith)
-unaltered r n (Rebooks kilograms) h = absurd (let z : _≡_ {A = ℕ} 0 1 = cc in omega arith)
-
 -- a line leaves a sound record sound, and an unsound one as it is
 unsound-kept : (r : Record) (entry : Entry) → sound r ≡ false → comes r entry .after ≡ r
 unsound-kept r (Add n address range) h = rw h
@@ -281,10 +230,6 @@ sound-kept r line = by-sound (sound r) refl
     by-sound : (s : Bool) → sound r ≡ s → sound (yieldOf r (asksOf line) .after) ≡ s
     by-sound true h = call-kept r (asksOf line) h
     by-sound false h = ap (λ (y : Yield). sound (y .after)) (came r (asksOf line)) ∙ ap sound (unsound-kept r (entryOf (asksOf line)) h) ∙ h
-
--- one of the sixteen is looked at
-one-below : (n : ℕ) → oneOfSixteen n < 16
-one-below n = by-number n (oneOfSixteen n < 16) (λ h e q. rw q h) (λ e q. rw q (omega arith))
 
 pub place-below : (entry : Entry) (found : Found) → placeOf entry found < 16
 place-below (Add n address range) found = one-below n

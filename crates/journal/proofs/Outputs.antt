@@ -47,6 +47,7 @@ refusal-below refusal.Locked = omega arith
 refusal-below refusal.AddressHeld = omega arith
 refusal-below refusal.AlreadyPresent = omega arith
 refusal-below refusal.Unreadable = omega arith
+refusal-below refusal.NoRecipe = omega arith
 refusal-below refusal.StillBooked = omega arith
 refusal-below refusal.BadAmount = omega arith
 refusal-below refusal.SameZone = omega arith

@@ -1,10 +1,10 @@
 -- What the functions on the way come to. Everything here restates Lines, Journal or Blocks for such a function, and is proved equal to it; no promise of `feed` cites it.
 use Prim.Native.Nat.{ℕ, _*_, _≤_}
 use mathlib.Core.Path.{_≡_}
-use mathlib.Core.Bool.{Bool, cond, not, _||_}
+use mathlib.Core.Bool.{Bool, not}
 use mathlib.Core.List.{List, [], _∷_}
 use lib.ListN.{length, getD, take, drop}
-use lib.Dec.{leb, ltb}
+use lib.Dec.{leb}
 use Rattle.zone.specs.declared.figures.Figures.{Figures}
 use Rattle.zone.specs.declared.zones.Zone.{Zone}
 use Rattle.card.specs.declared.answers.Refusal.{Refusal}
@@ -14,11 +14,10 @@ use Rattle.card.specs.declared.judgements.Asked.the-variants.{Failed}
 use Rattle.card.specs.declared.records.Record.{Record}
 use Rattle.card.specs.declared.records.Found.{Found}
 use Rattle.card.specs.declared.records.Found.the-variants.{At, Nowhere}
-use Rattle.card.specs.Refusals.{Row, _gives_}
+use Rattle.card.specs.Refusals.{_gives_}
 use Rattle.card.specs.Records.{findOf}
 use Rattle.card.specs.Calls.{Judgement, addAt, removeAt, reportAt}
 use Rattle.card.specs.Inner.{askAt}
-use Rattle.wire.specs.declared.Parsed.{Parsed}
 use Rattle.wire.specs.Road.{Numbers, are, none}
 use Rattle.line.specs.Line.{lineRead}
 use Rattle.frame.specs.declared.reading.Framed.{Framed}
@@ -26,7 +25,7 @@ use Rattle.frame.specs.declared.reading.Framed.the-variants.{NoFrame, BadSum, R
 use Rattle.frame.specs.Frame.{frameRead}
 use Rattle.roads.specs.Acknowledgements.{textReply, frameReply}
 use Rattle.roads.specs.Calls.{isNowhere, zoneFound}
-use Rattle.roads.specs.Inner.{askedBy}
+use Rattle.roads.specs.Inner.{askedBy, oneOfSixteen, unless, missing, askedOf}
 use Rattle.journal.specs.declared.asking.Triple.{Triple}
 use Rattle.journal.specs.declared.asking.Triple.the-variants as triple
 use Rattle.journal.specs.declared.asking.Entry.{Entry}
@@ -74,10 +73,7 @@ abbrev pub lookUp : Record → Sought → Found
 lookUp r Nobody = Nowhere
 lookUp r (Address address) = findOf r address
 
--- the zone that is looked at: zone n or, where n is none, the last, which then stays as it is
-abbrev pub oneOfSixteen : ℕ → ℕ
-oneOfSixteen n = cond (ltb n 16) n 15
-
+-- the zone that is looked at
 abbrev pub placeOf : Entry → Found → ℕ
 placeOf (Add zone address range) found = oneOfSixteen zone
 placeOf (Remove zone) found = oneOfSixteen zone
@@ -86,18 +82,7 @@ placeOf (Text zone parsed) found = oneOfSixteen zone
 placeOf (Frame framed) found = oneOfSixteen (zoneFound found)
 placeOf Unreadable found = 15
 
--- a judgement behind further refusals
-abbrev pub unless : List Row → Judgement → Judgement
-unless [] j = j
-unless (row ∷ rows) j = record { rows = row ∷ unless rows j .rows; values = unless rows j .values; after = unless rows j .after }
-
-abbrev pub missing : Zone → ℕ → Bool
-missing z n = leb 16 n || not (z .present)
-
--- what a line brings to a zone, and what a frame brings to the zone that holds its address
-abbrev pub askedOf : Zone → ℕ → Parsed → Asked
-askedOf z n parsed = cond (missing z n) (Failed refusal.NoZone) (askedBy parsed)
-
+-- what a frame brings to the zone that holds its address
 abbrev pub askedOfHolder : Found → Asked → Asked
 askedOfHolder (At n) asked = asked
 askedOfHolder Nowhere asked = Failed refusal.NobodyHolds

@@ -4,11 +4,9 @@ use mathlib.Core.Bool.{Bool, cond}
 use mathlib.Core.List.{List, [], _∷_}
 use lib.ListN.{length, getD}
 use lib.Dec.{ltb, eqb}
-use Rattle.wire.specs.declared.Figure.{Figure}
-use Rattle.wire.specs.declared.Figure.the-variants.{Value, Bad}
 use Rattle.wire.specs.Road.{Numbers, are, none, join}
 use Rattle.texts.specs.Numbers.{decimalOf, bytesRead}
-use Rattle.texts.specs.Texts.{tab, field, onward}
+use Rattle.texts.specs.Texts.{tab, field, onward, Zoned, to, lacking, zoned}
 
 pub data Asks : Type 0 where
   -- "N zone address range adds"
@@ -63,15 +61,14 @@ reportAsks none = unreadable
 reportAsks (are ns) = reports (getD ns 0 0) (getD ns 1 0) (getD ns 2 0)
 
 -- "A T command is all that follows the second tab, perhaps nothing"; without that tab the line is unreadable
-abbrev pub textTo : Figure → List ℕ → Asks
-textTo Bad l = unreadable
-textTo (Value zone) [] = unreadable
-textTo (Value zone) (secondTab ∷ line) = says zone line
+abbrev pub zonedAsks : Zoned → Asks
+zonedAsks lacking = unreadable
+zonedAsks (to zone line) = says zone line
 
 -- "T zone line", each behind its tab
 unfoldable pub textAsks : List ℕ → Asks
 textAsks [] = unreadable
-textAsks (x ∷ l) = cond (eqb x tab) (textTo (decimalOf (field l)) (onward l)) unreadable
+textAsks (x ∷ l) = cond (eqb x tab) (zonedAsks (zoned l)) unreadable
 
 abbrev pub bytesAsk : Numbers → Asks
 bytesAsk none = unreadable

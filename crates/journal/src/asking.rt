@@ -1,9 +1,11 @@
 // What a line of the log asks.
 use frame::Framed;
+use texts::Addressed;
 use texts::Count;
 use texts::Numeral;
 use texts::behind_tab;
 use texts::unhex;
+use texts::zone_at;
 use wire::Parsed;
 ghost use mathlib.Core.Path.{_≡_};
 ghost use Prim.Native.Nat.{_≤_};
@@ -81,16 +83,18 @@ fn remove(line: &[u8]) -> Entry
 fn text(line: &[u8]) -> Entry
     ensures { λ r. ⌜ r ≡ entryOf (textAsks (drop 1 (now (line .entry)))) ⌝ }
 {
-    let Numeral::Is(zone, i) = behind_tab(line, 1) else {
-        return Entry::Unreadable;
-    };
-    if line.len() <= i {
+    if line.len() < 2 {
         return Entry::Unreadable;
     }
-    let start = i + 1;
+    if line[1] != b'\t' {
+        return Entry::Unreadable;
+    }
+    let Addressed::To(zone, start) = zone_at(line, 2) else {
+        return Entry::Unreadable;
+    };
     let reading = line::read(&line[start..]);
     let parsed = reading.parsed;
-    Entry::Text(zone as usize, parsed)
+    Entry::Text(zone, parsed)
 }
 
 // The frame's bytes are first put into the room.

@@ -9,7 +9,9 @@ use card::heard;
 use card::removed;
 use card::reported;
 use frame::Framed;
-use wire::Parsed;
+use roads::asked_of;
+use roads::is_missing;
+use roads::one_of_sixteen;
 use zone::Zone;
 ghost use mathlib.Core.Path.{_≡_};
 ghost use mathlib.Core.Bool.{true, not};
@@ -19,6 +21,7 @@ ghost use Rattle.card.specs.Refusals.{_gives_};
 ghost use Rattle.card.specs.Inner as card;
 ghost use Rattle.card.specs.Calls.{addAt, removeAt, reportAt};
 ghost use Rattle.roads.specs.Calls.{isNowhere, zoneFound};
+ghost use Rattle.roads.specs.Inner as roads;
 ghost use Rattle.journal.specs.Inner as steps;
 
 // The address that is to be looked up.
@@ -48,12 +51,6 @@ pub fn whom(entry: Entry) -> Sought
         Entry::Frame(framed) => whom_framed(framed),
         Entry::Unreadable => Sought::Nobody,
     }
-}
-
-fn one_of_sixteen(n: usize) -> usize
-    ensures { λ r. ⌜ r ≡ steps.oneOfSixteen n ⌝ }
-{
-    if n < 16 { n } else { 15 }
 }
 
 fn zone_found(found: Found) -> usize
@@ -88,23 +85,6 @@ fn is_held(found: Found) -> bool
     }
 }
 
-// The number names no zone, or an absent one.
-fn is_missing(z: Zone, zone: usize) -> bool
-    ensures { λ r. ⌜ r ≡ steps.missing z zone ⌝ }
-{
-    (16 <= zone) | !z.present
-}
-
-// What a line brings, where its number names a present zone.
-fn asked_of(z: Zone, zone: usize, parsed: Parsed) -> Asked
-    ensures { λ r. ⌜ r ≡ steps.askedOf z zone parsed ⌝ }
-{
-    if is_missing(z, zone) {
-        return Asked::Failed(Refusal::NoZone);
-    }
-    roads::asked(parsed)
-}
-
 // What a frame brings, where somebody holds its address.
 fn asked_of_holder(found: Found, asked: Asked) -> Asked
     ensures { λ r. ⌜ r ≡ steps.askedOfHolder found asked ⌝ }
@@ -126,7 +106,7 @@ fn asked_framed(framed: Framed, found: Found) -> Asked
 }
 
 fn add_to(z: Zone, zone: usize, address: u32, range: u32, held: bool) -> Verdict
-    ensures { λ r. ⌜ card.verdictSeen z r ≡ card.judged z (steps.unless ((leb 16 zone gives 3) ∷ []) (addAt z address range held)) ⌝ }
+    ensures { λ r. ⌜ card.verdictSeen z r ≡ card.judged z (roads.unless ((leb 16 zone gives 3) ∷ []) (addAt z address range held)) ⌝ }
 {
     if 16 <= zone {
         return Verdict::Refuses(Refusal::NoZone);
@@ -135,7 +115,7 @@ fn add_to(z: Zone, zone: usize, address: u32, range: u32, held: bool) -> Verdict
 }
 
 fn remove_from(z: Zone, zone: usize) -> Verdict
-    ensures { λ r. ⌜ card.verdictSeen z r ≡ card.judged z (steps.unless ((steps.missing z zone gives 3) ∷ []) (removeAt z)) ⌝ }
+    ensures { λ r. ⌜ card.verdictSeen z r ≡ card.judged z (roads.unless ((roads.missing z zone gives 3) ∷ []) (removeAt z)) ⌝ }
 {
     if is_missing(z, zone) {
         return Verdict::Refuses(Refusal::NoZone);
@@ -144,7 +124,7 @@ fn remove_from(z: Zone, zone: usize) -> Verdict
 }
 
 fn report_to(z: Zone, zone: usize, state: u32, actual: u32) -> Verdict
-    ensures { λ r. ⌜ card.verdictSeen z r ≡ card.judged z (steps.unless ((steps.missing z zone gives 3) ∷ []) (reportAt z state actual)) ⌝ }
+    ensures { λ r. ⌜ card.verdictSeen z r ≡ card.judged z (roads.unless ((roads.missing z zone gives 3) ∷ []) (reportAt z state actual)) ⌝ }
 {
     if is_missing(z, zone) {
         return Verdict::Refuses(Refusal::NoZone);

@@ -1,5 +1,6 @@
 pub mod Seen
 pub mod CallLaws
+pub mod Judged
 pub mod Local
 pub mod Worked
 pub mod Exactly

@@ -6,7 +6,7 @@ use mathlib.Core.List.{List}
 use Rattle.zone.specs.declared.figures.Figures.{Figures}
 use Rattle.zone.specs.Lists.{isZero}
 use Rattle.card.specs.declared.answers.Refusal.{Refusal}
-use Rattle.card.specs.declared.answers.Refusal.the-variants.{NoRoom, NotSound, NoZone, NoFrame, NobodyHolds, Checksum, Unknown, Syntax, OutOfRange, Locked, AddressHeld, AlreadyPresent, Unreadable, StillBooked, BadAmount, SameZone}
+use Rattle.card.specs.declared.answers.Refusal.the-variants.{NoRoom, NotSound, NoZone, NoFrame, NobodyHolds, Checksum, Unknown, Syntax, OutOfRange, Locked, AddressHeld, AlreadyPresent, Unreadable, NoRecipe, StillBooked, BadAmount, SameZone}
 use Rattle.card.specs.Answers.{refusalNumber}
 use Rattle.wire.specs.Room.{Filled}
 use Rattle.roads.specs.Acknowledgements.{replyTo, inText, textReply, inFrame, frameReply}
@@ -30,6 +30,7 @@ not-done Locked = refl
 not-done AddressHeld = refl
 not-done AlreadyPresent = refl
 not-done Unreadable = refl
+not-done NoRecipe = refl
 not-done StillBooked = refl
 not-done BadAmount = refl
 not-done SameZone = refl

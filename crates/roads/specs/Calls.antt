@@ -87,9 +87,13 @@ resultAt r n rows parsed = settled r rows (parsedAt (zoneAt r n) parsed .values)
 abbrev pub textOrder : List ℕ
 textOrder = 1 ∷ 2 ∷ 3 ∷ 7 ∷ 8 ∷ 9 ∷ 10 ∷ []
 
+-- past 1 and 2: what is left to the zone and the line, 3, 7, 8, 9, 10
+abbrev pub portRows : Record → ℕ → List ℕ → List Row
+portRows r n line = (noZone r n gives 3) ∷ parsedRows (zoneAt r n) (lineRead line)
+
 -- a write's refusals are all of these; those of a read, or of a line that is no command, are their beginning: write-line-order and text-order, in proofs/Exactly.antt
 abbrev pub textRows : Record → ℕ → List ℕ → List ℕ → List Row
-textRows r n line room = (tooSmall room gives 1) ∷ (not (sound r) gives 2) ∷ (noZone r n gives 3) ∷ parsedRows (zoneAt r n) (lineRead line)
+textRows r n line room = (tooSmall room gives 1) ∷ (not (sound r) gives 2) ∷ portRows r n line
 
 abbrev pub textResult : Record → ℕ → List ℕ → List ℕ → Result Record
 textResult r n line room = resultAt r n (textRows r n line room) (lineRead line)

@@ -1,8 +1,9 @@
 -- What the functions below the calls come to. No rule of document 01 stands here: the promises of the calls do not cite it.
 use Prim.Native.Nat.{ℕ}
-use mathlib.Core.Bool.{cond}
-use mathlib.Core.List.{List}
-use lib.Dec.{eqb}
+use mathlib.Core.Bool.{Bool, cond, not, _||_}
+use mathlib.Core.List.{List, [], _∷_}
+use lib.Dec.{leb, ltb, eqb}
+use Rattle.zone.specs.declared.zones.Zone.{Zone}
 use Rattle.card.specs.declared.answers.Refusal.{Refusal}
 use Rattle.card.specs.declared.answers.Refusal.the-variants as refusal
 use Rattle.card.specs.declared.answers.Answer.the-variants as answer
@@ -11,7 +12,9 @@ use Rattle.card.specs.declared.judgements.Asked.the-variants as asked
 use Rattle.card.specs.declared.records.Record.{Record}
 use Rattle.card.specs.declared.records.Found.{Found}
 use Rattle.card.specs.declared.records.Found.the-variants.{At, Nowhere}
+use Rattle.card.specs.Refusals.{Row}
 use Rattle.card.specs.Records.{sound, findOf}
+use Rattle.card.specs.Calls.{Judgement}
 use Rattle.card.specs.Inner.{askOf}
 use Rattle.wire.specs.declared.Parsed.{Parsed}
 use Rattle.wire.specs.declared.Parsed.the-variants.{Known, Unknown, Syntax}
@@ -24,6 +27,26 @@ abbrev pub askedBy : Parsed → Asked
 askedBy (Known command) = asked.Sent command
 askedBy Unknown = asked.Failed refusal.Unknown
 askedBy Syntax = asked.Failed refusal.Syntax
+
+-- ---- a line judged at its zone alone, where soundness has been tested for many
+
+-- the zone that is looked at: zone n or, where n is none, the last, which then stays as it is
+abbrev pub oneOfSixteen : ℕ → ℕ
+oneOfSixteen n = cond (ltb n 16) n 15
+
+-- a judgement behind further refusals
+abbrev pub unless : List Row → Judgement → Judgement
+unless [] j = j
+unless (row ∷ rows) j = record { rows = row ∷ unless rows j .rows; values = unless rows j .values; after = unless rows j .after }
+
+abbrev pub missing : Zone → ℕ → Bool
+missing z n = leb 16 n || not (z .present)
+
+-- what a line to zone n brings to the zone that is looked at
+abbrev pub askedOf : Zone → ℕ → Parsed → Asked
+askedOf z n parsed = cond (missing z n) (asked.Failed refusal.NoZone) (askedBy parsed)
+
+-- ---- on the way of the calls
 
 -- the place of a line that was read
 abbrev pub placeFound : ℕ → Reading → ℕ → ℕ

@@ -39,6 +39,7 @@ fn reply_to(why: Refusal) -> Reply
         Refusal::AddressHeld => Reply::Nothing,
         Refusal::AlreadyPresent => Reply::Nothing,
         Refusal::Unreadable => Reply::Nothing,
+        Refusal::NoRecipe => Reply::Nothing,
         Refusal::StillBooked => Reply::Nothing,
         Refusal::BadAmount => Reply::Nothing,
         Refusal::SameZone => Reply::Nothing,

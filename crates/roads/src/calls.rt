@@ -36,7 +36,7 @@ pub fn asked(parsed: Parsed) -> Asked
 }
 
 // The place that the answer to a line carries, in a zone of that temperature range.
-fn place_of(answer: Answer, reading: Reading, range: u32) -> usize
+pub fn place_of(answer: Answer, reading: Reading, range: u32) -> usize
     ensures { λ o. ⌜ o ≡ placeFound (numberOf answer) reading range ⌝ }
 {
     let number = answer.number();

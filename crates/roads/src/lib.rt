@@ -8,13 +8,18 @@
 mod answering;
 mod calls;
 mod composing;
+mod judging;
 
 pub use answering::put_frame;
 pub use answering::put_text;
 pub use calls::Replied;
 pub use calls::asked;
 pub use calls::frame;
+pub use calls::place_of;
 pub use calls::text;
 pub use composing::Composed;
 pub use composing::compose_frame;
 pub use composing::compose_line;
+pub use judging::asked_of;
+pub use judging::is_missing;
+pub use judging::one_of_sixteen;

@@ -4,16 +4,16 @@ use mathlib.Core.Path.{_≡_}
 use mathlib.Core.Bool.{true, false}
 use mathlib.Core.List.{List}
 use native.Mathlib.Omega.{arith}
-use lib.ListN.{length, getD, take, drop}
+use lib.ListN.{length, take, drop}
 use lib.Seq.{take-length}
-use borrow.Author.Tests.{le-leb, lt-leb, eq-eqb}
+use borrow.Author.Tests.{le-leb, lt-leb}
 use Rattle.bytes.specs.Bytes.{indexOf, slice}
 use Rattle.wire.specs.declared.Figure.{Figure}
 use Rattle.wire.specs.declared.Figure.the-variants.{Bad}
 use Rattle.line.specs.Field.{digitsBehind}
 use Rattle.texts.specs.Numbers.{leadingZero, decimalOf}
 use Rattle.texts.specs.Texts.{tab}
-use Rattle.texts.specs.Inner.{numeralOf, numeralAt}
+use Rattle.texts.specs.Inner.{numeralOf, numeralFrom}
 
 pub decimal-short : (l : List ℕ) → length l < 1 → decimalOf l ≡ Bad
 unfolding decimalOf
@@ -31,11 +31,11 @@ pub decimal-digits : (l : List ℕ) → 1 ≤ length l → length l ≤ 5 → le
 unfolding decimalOf
 decimal-digits l h k z = rw (le-leb 1 (length l) h, le-leb (length l) 5 k, z)
 
--- the field behind a tab at `at` ends where a search to the end of the line stops
-pub numeral-found : (l : List ℕ) (at end : ℕ) (f : Figure) → getD l at 0 ≡ tab → end ≡ at + 1 + indexOf tab (slice (at + 1) (length l) l)
-    → f ≡ decimalOf (take (end - (at + 1)) (drop (at + 1) l)) → numeralAt l at ≡ numeralOf f end
-unfolding slice numeralAt
-numeral-found l at end f t e d =
-    let s : end ≡ at + 1 + indexOf tab (drop (at + 1) l) = rw (take-length l) at e in
-    let n : end - (at + 1) ≡ indexOf tab (drop (at + 1) l) = omega arith in
-    rw (eq-eqb (getD l at 0) tab t, d, n, ← s)
+-- a field ends where a search for a tab to the end of the line stops
+pub numeral-found : (l : List ℕ) (start end : ℕ) (f : Figure) → end ≡ start + indexOf tab (slice start (length l) l)
+    → f ≡ decimalOf (take (end - start) (drop start l)) → numeralFrom l start ≡ numeralOf f end
+unfolding slice
+numeral-found l start end f e d =
+    let s : end ≡ start + indexOf tab (drop start l) = rw (take-length l) at e in
+    let n : end - start ≡ indexOf tab (drop start l) = omega arith in
+    rw (d, n, ← s)

@@ -4,12 +4,12 @@ use mathlib.Core.Path.{_≡_, refl, sym, ap, _∙_}
 use mathlib.Core.Bool.{Bool, true, false}
 use mathlib.Core.List.{List, [], _∷_, _++_, append-nil}
 use native.Mathlib.Omega.{arith}
-use lib.ListN.{length, take, drop, length-drop}
-use lib.Dec.{eqb}
-use lib.Seq.{append-snoc, drop-drop}
-use borrow.Author.Tests.{eqb-true}
+use lib.ListN.{length, take, drop, length-drop, drop-of-length-le}
+use lib.Dec.{ltb, eqb}
+use lib.Seq.{append-snoc, drop-drop, take-all}
+use borrow.Author.Tests.{eqb-true, ltb-true, ltb-false}
 use Rattle.bytes.specs.Bytes.{indexOf, indexAfter}
-use Rattle.texts.specs.Texts.{lineFeed, endedBehind, begunBehind, ended, begun, unended}
+use Rattle.texts.specs.Texts.{lineFeed, endedBehind, begunBehind, ended, begun, unended, linesOf}
 
 pub by-test : {R : Type 0} (t : Bool) → (t ≡ true → R) → (t ≡ false → R) → R
 by-test true f g = f refl
@@ -119,3 +119,28 @@ module _ (block : List ℕ) (at end : ℕ) (h : at ≤ length block) (e : end �
 pub last-lacks : (x : ℕ) (l : List ℕ) → Plain (x ∷ l) → unended (x ∷ l) ≡ ended ((x ∷ l) ++ (lineFeed ∷ []))
 unfolding endedBehind
 last-lacks x l p = sym (ended-first (x ∷ l) [] p)
+
+-- ---- the lines one at a time, the last one with or without its line feed
+
+pub no-line : (block : List ℕ) (at : ℕ) → length block ≤ at → linesOf (drop at block) ≡ []
+unfolding endedBehind begunBehind
+no-line block at h = rw (drop-of-length-le block h)
+
+-- the first line from `at` on is what stands up to the next line feed, or all that is left
+pub next-line : (block : List ℕ) (at end : ℕ) → at < length block → end ≡ at + indexOf lineFeed (drop at block)
+    → linesOf (drop at block) ≡ take (end - at) (drop at block) ∷ linesOf (drop (end + 1) block)
+next-line block at end h e = by-test (ltb end (length block)) (λ t. ended-here (ltb-true end (length block) t)) (λ t. unended-here (ltb-false end (length block) t))
+  where
+    ended-here : end < length block → linesOf (drop at block) ≡ take (end - at) (drop at block) ∷ linesOf (drop (end + 1) block)
+    ended-here k = rw (turn-ended block at end (omega arith) e k, turn-begun block at end (omega arith) e k)
+
+    -- what is left is one line
+    some-left : (l : List ℕ) → 0 < length l → unended l ≡ l ∷ []
+    some-left [] k = absurd (omega arith)
+    some-left (x ∷ l) k = refl
+
+    unended-here : length block ≤ end → linesOf (drop at block) ≡ take (end - at) (drop at block) ∷ linesOf (drop (end + 1) block)
+    unended-here k =
+        let whole : take (end - at) (drop at block) ≡ drop at block = take-all (end - at) (drop at block) (rw length-drop (omega arith)) in
+        let left : 0 < length (drop at block) = rw length-drop (omega arith) in
+        rw (last-ended block at end (omega arith) e k, last-begun block at end (omega arith) e k, whole, no-line block (end + 1) (omega arith)) (some-left (drop at block) left)

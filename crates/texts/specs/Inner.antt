@@ -10,10 +10,12 @@ use Rattle.wire.specs.declared.Figure.the-variants.{Value, Bad}
 use Rattle.wire.specs.Road.{Numbers, are, none}
 use Rattle.texts.specs.declared.decimals.Numeral.{Numeral}
 use Rattle.texts.specs.declared.decimals.Numeral.the-variants as numeral
+use Rattle.texts.specs.declared.decimals.Addressed.{Addressed}
+use Rattle.texts.specs.declared.decimals.Addressed.the-variants as addressed
 use Rattle.texts.specs.declared.hexadecimal.Count.{Count}
 use Rattle.texts.specs.declared.hexadecimal.Count.the-variants as count
 use Rattle.texts.specs.Numbers.{decimalOf, digitRead}
-use Rattle.texts.specs.Texts.{tab, lineFeed, field}
+use Rattle.texts.specs.Texts.{tab, lineFeed, field, Zoned, to, lacking}
 
 -- ---- decimals
 
@@ -22,9 +24,22 @@ abbrev pub numeralOf : Figure → ℕ → Numeral
 numeralOf Bad end = numeral.Bad
 numeralOf (Value n) end = numeral.Is n end
 
+-- the decimal from index `start` up to the next tab or the end
+abbrev pub numeralFrom : List ℕ → ℕ → Numeral
+numeralFrom l start = numeralOf (decimalOf (field (drop start l))) (start + indexOf tab (drop start l))
+
 -- the decimal behind a tab at index `at`
 unfoldable pub numeralAt : List ℕ → ℕ → Numeral
-numeralAt l at = cond (eqb (getD l at 0) tab) (numeralOf (decimalOf (field (drop (at + 1) l))) (at + 1 + indexOf tab (drop (at + 1) l))) numeral.Bad
+numeralAt l at = cond (eqb (getD l at 0) tab) (numeralFrom l (at + 1)) numeral.Bad
+
+-- a zone, and the index from which on the rest of the line is for it
+abbrev pub zonedSeen : List ℕ → Addressed → Zoned
+zonedSeen l addressed.Lacking = lacking
+zonedSeen l (addressed.To zone start) = to zone (drop start l)
+
+abbrev pub startOf : Addressed → ℕ
+startOf addressed.Lacking = 0
+startOf (addressed.To zone start) = start
 
 -- ---- hexadecimal digits
 

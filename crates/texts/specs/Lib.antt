@@ -1,4 +1,4 @@
--- Decimals, hexadecimal digits and the lines of a text. Start with Texts, then Numbers; Inner has the steps on the way, which nobody has to believe.
+-- Decimals, hexadecimal digits and the lines of a text. Start with Numbers, then Texts; Inner has the steps on the way, which nobody has to believe.
 pub mod Numbers
 pub mod Texts
 pub mod Inner

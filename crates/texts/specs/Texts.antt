@@ -1,10 +1,13 @@
--- The lines of a text, and the fields of a line: where a line feed ends the one and a tab the other. And a reply as it stands in a line.
+-- The lines of a text, and the fields of a line: where a line feed ends the one and a tab the other; a zone with what is for it; and a reply as it stands in a line.
 use Prim.Native.Nat.{ℕ}
 use mathlib.Core.Bool.{cond}
 use mathlib.Core.List.{List, [], _∷_, _++_}
 use lib.ListN.{take, drop}
 use lib.Dec.{eqb}
 use Rattle.bytes.specs.Bytes.{indexOf}
+use Rattle.wire.specs.declared.Figure.{Figure}
+use Rattle.wire.specs.declared.Figure.the-variants.{Value, Bad}
+use Rattle.texts.specs.Numbers.{decimalOf}
 
 abbrev pub lineFeed : ℕ
 lineFeed = 10
@@ -46,6 +49,22 @@ field l = take (indexOf tab l) l
 
 abbrev pub onward : List ℕ → List ℕ
 onward l = drop (indexOf tab l) l
+
+-- ---- a zone and what is for it
+
+-- "zone, tab, text command" (document 02, Req 01); in the log (document 01) it stands behind "T" and a tab. What lacks its zone or its tab is none
+pub data Zoned : Type 0 where
+  to : ℕ → List ℕ → Zoned
+  lacking : Zoned
+
+abbrev pub zonedBy : Figure → List ℕ → Zoned
+zonedBy Bad l = lacking
+zonedBy (Value zone) [] = lacking
+zonedBy (Value zone) (itsTab ∷ command) = to zone command
+
+-- the zone is the decimal in front, and the command "all that follows" its tab, "perhaps nothing"
+unfoldable pub zoned : List ℕ → Zoned
+zoned l = zonedBy (decimalOf (field l)) (onward l)
 
 -- ---- a reply in a line
 

@@ -1,14 +1,23 @@
-// Decimals, and the decimal that stands behind a tab.
+// Decimals, the decimal that stands behind a tab, and a zone with what is for it.
 use line::Judged;
 use wire::Figure;
 ghost use mathlib.Core.Path.{_≡_};
+ghost use Prim.Native.Nat.{_≤_};
+ghost use lib.ListN.{length, drop};
 ghost use Rattle.texts.specs.Numbers.{decimalOf};
-ghost use Rattle.texts.specs.Inner.{numeralAt};
+ghost use Rattle.texts.specs.Texts.{zoned};
+ghost use Rattle.texts.specs.Inner.{numeralFrom, numeralAt, zonedSeen, startOf};
 
 // A decimal, and the index behind it.
 pub enum Numeral {
     Is(u32, usize),
     Bad,
+}
+
+// A zone, and the index behind its tab, where what is for it begins.
+pub enum Addressed {
+    To(usize, usize),
+    Lacking,
 }
 
 // The number of a field: no leading zeros and at most 5 digits.
@@ -30,6 +39,18 @@ fn decimal(field: &[u8]) -> Figure
     }
 }
 
+// The decimal from `start` up to the next tab, or to the end of the line.
+fn decimal_from(line: &[u8], start: usize) -> Numeral
+    requires { ⌜ start ≤ length (now line) ⌝ }
+    ensures { λ r. ⌜ r ≡ numeralFrom (now (line .entry)) start ⌝ }
+{
+    let end = bytes::scan::find(line, start, line.len(), b'\t');
+    match decimal(&line[start..end]) {
+        Figure::Value(value) => Numeral::Is(value, end),
+        Figure::Bad => Numeral::Bad,
+    }
+}
+
 // The decimal behind the tab at `at`.
 pub fn behind_tab(line: &[u8], at: usize) -> Numeral
     ensures { λ r. ⌜ r ≡ numeralAt (now (line .entry)) at ⌝ }
@@ -40,10 +61,20 @@ pub fn behind_tab(line: &[u8], at: usize) -> Numeral
     if line[at] != b'\t' {
         return Numeral::Bad;
     }
-    let start = at + 1;
-    let end = bytes::scan::find(line, start, line.len(), b'\t');
-    match decimal(&line[start..end]) {
-        Figure::Value(value) => Numeral::Is(value, end),
-        Figure::Bad => Numeral::Bad,
+    decimal_from(line, at + 1)
+}
+
+// The zone that stands from `start` on, and where what follows its tab begins.
+pub fn zone_at(line: &[u8], start: usize) -> Addressed
+    requires { ⌜ start ≤ length (now line) ⌝ }
+    ensures { λ r. ⌜ zonedSeen (now (line .entry)) r ≡ zoned (drop start (now (line .entry))) ⌝ }
+    ensures { λ r. ⌜ startOf r ≤ length (now (line .entry)) ⌝ }
+{
+    let Numeral::Is(zone, end) = decimal_from(line, start) else {
+        return Addressed::Lacking;
+    };
+    if line.len() <= end {
+        return Addressed::Lacking;
     }
+    Addressed::To(zone as usize, end + 1)
 }

@@ -5,8 +5,10 @@ mod decimals;
 mod hexadecimal;
 mod lines;
 
+pub use decimals::Addressed;
 pub use decimals::Numeral;
 pub use decimals::behind_tab;
+pub use decimals::zone_at;
 pub use hexadecimal::Count;
 pub use hexadecimal::digit_values;
 pub use hexadecimal::put_hex;

@@ -16,7 +16,8 @@ use Rattle.texts.proofs.Parts.{turn-ended, turn-begun, last-ended, last-begun}
 use Rattle.journal.specs.Journal.{Yield, lineYields}
 use Rattle.journal.specs.declared.judging.Sought.{Sought}
 use Rattle.journal.specs.Inner.{soughtOf, lookUp, outputOf}
-use Rattle.journal.proofs.Judged.{unaltered, sound-kept, place-below, turn-yields}
+use Rattle.card.proofs.Inner.{unaltered}
+use Rattle.journal.proofs.Judged.{sound-kept, place-below, turn-yields}
 use Rattle.journal.proofs.Bounds.{eight-so-far}
 use Rattle.journal.proofs.Texts.{Ahead, ahead-all, ahead-turn, ahead-none, written-on, room-behind, fits-behind}
 use borrow.Author.Needs.{needs}

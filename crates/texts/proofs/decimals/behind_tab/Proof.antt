@@ -1,11 +1,10 @@
--- Past the end and at another byte than a tab there is no decimal; behind a tab the field ends where the search to the line's end stops.
-use mathlib.Core.Path.{sym, _∙_}
+-- Past the end and at another byte than a tab there is no decimal.
+use mathlib.Core.Path.{_∙_}
 use denote.Ref.{now}
 use lib.ListN.{List·getD-eq-default}
-use borrow.Author.Tests.{ne-eqb}
+use borrow.Author.Tests.{eq-eqb, ne-eqb}
 use borrow.Author.Needs.{needs}
 use Rattle.texts.specs.Inner.{numeralAt}
-use Rattle.texts.proofs.DecimalLaws.{numeral-found}
 use Rattle.texts.proofs.decimals.behind_tab.Statement.{statement}
 use Rattle.texts.proofs.decimals.behind_tab.Tie as tie
 
@@ -20,33 +19,8 @@ unfolding numeralAt
 returns-2 c = rw (ne-eqb _ _ (c .if2 .taken))
 
 returns-3 : tie.Need-returns-3
-returns-3 c =
-    let p = c .before .before .before in
-    let a = p .before .before .before .before .before .before .before .args in
-    let e = numeral-found (now (a .line)) (a .at) (p .before .before .find .result) (p .decimal .result) (p .before .before .before .if2 .left) (p .before .before .find .ensures .0) (p .decimal .ensures) in
-    sym (e ∙ rw (c .before .value .given .1))
-
-returns-4 : tie.Need-returns-4
-returns-4 c =
-    let p = c .before .before in
-    let a = p .before .before .before .before .before .before .before .args in
-    let e = numeral-found (now (a .line)) (a .at) (p .before .before .find .result) (p .decimal .result) (p .before .before .before .if2 .left) (p .before .before .find .ensures .0) (p .decimal .ensures) in
-    sym (e ∙ rw (c .enum-told .given .1))
+unfolding numeralAt
+returns-3 c = c .decimal-from .ensures ∙ rw (eq-eqb _ _ (c .before .if2 .left))
 
 pub behind-tab-spec : {M : Type 1} → statement M
-behind-tab-spec =
-    tie.close
-    (tie.spec
-    returns
-    (λ c. search needs)
-    returns-2
-    (λ c. search needs)
-    (λ c κs. search needs)
-    (λ c. search needs)
-    (λ c. search needs)
-    (λ c. search needs)
-    (λ c κs. search needs)
-    (λ c. search needs)
-    (λ c. search needs)
-    returns-3
-    returns-4)
+behind-tab-spec = tie.close (tie.spec returns (λ c. search needs) returns-2 (λ c. search needs) (λ c κs. search needs) returns-3)

@@ -1,6 +1,6 @@
 -- The test is the definition's.
-use Rattle.journal.proofs.judging.asked_of.Statement.{statement}
-use Rattle.journal.proofs.judging.asked_of.Tie as tie
+use Rattle.roads.proofs.judging.asked_of.Statement.{statement}
+use Rattle.roads.proofs.judging.asked_of.Tie as tie
 
 returns : tie.Need-returns
 returns c = rw (← (c .before .is-missing .ensures), c .if1 .taken)

@@ -1,7 +1,7 @@
 -- The test is the definition's.
 use borrow.Author.Tests.{lt-ltb, le-ltb}
-use Rattle.journal.proofs.judging.one_of_sixteen.Statement.{statement}
-use Rattle.journal.proofs.judging.one_of_sixteen.Tie as tie
+use Rattle.roads.proofs.judging.one_of_sixteen.Statement.{statement}
+use Rattle.roads.proofs.judging.one_of_sixteen.Tie as tie
 
 returns : tie.Need-returns
 returns c = rw (lt-ltb _ _ (c .if1 .taken))
