@@ -126,6 +126,15 @@ pub no-line : (block : List ℕ) (at : ℕ) → length block ≤ at → linesOf 
 unfolding endedBehind begunBehind
 no-line block at h = rw (drop-of-length-le block h)
 
+-- it ends within the text
+feed-within : (t : List ℕ) → indexOf lineFeed t ≤ length t
+unfolding indexOf indexAfter
+feed-within [] = omega arith
+feed-within (x ∷ t) = by-test (eqb x lineFeed) (λ e. rw e (omega arith)) (λ e. rw e (omega (arith, feed-within t)))
+
+pub end-within : (block : List ℕ) (at end : ℕ) → at ≤ length block → end ≡ at + indexOf lineFeed (drop at block) → end ≤ length block
+end-within block at end h e = omega (arith, e, feed-within (drop at block), length-drop at block)
+
 -- the first line from `at` on is what stands up to the next line feed, or all that is left
 pub next-line : (block : List ℕ) (at end : ℕ) → at < length block → end ≡ at + indexOf lineFeed (drop at block)
     → linesOf (drop at block) ≡ take (end - at) (drop at block) ∷ linesOf (drop (end + 1) block)

@@ -1,0 +1,5 @@
+pub mod Surveys
+pub mod Replies
+pub mod Sent
+pub mod Turns
+pub mod Cases

@@ -1,0 +1,121 @@
+-- What is proved of loading a recipe, for every record, all bytes and every room. Above each statement stands where. What it does among other calls stands in session/specs/Recipes.antt.
+-- "P → ⊥" says that P does not hold, "P ⊎ Q" that one of the two does, "P × Q" that both do, "P ↔ Q" that each holds where the other does.
+use Prim.Native.Nat.{ℕ, suc, _+_, _-_, _*_, _≤_, _<_}
+use mathlib.Core.Path.{_≡_}
+use mathlib.Core.Logic.{_⊎_, _↔_}
+use mathlib.Core.Bool.{true, false}
+use mathlib.Core.List.{List, [], _∷_, _++_}
+use lib.ListN.{length, take, drop, getD, replicate}
+use Rattle.zone.specs.Lists.{every}
+use Rattle.card.specs.declared.records.Record.{Record}
+use Rattle.card.specs.Refusals.{first}
+use Rattle.card.specs.Records.{sound}
+use Rattle.card.specs.Rules.{ExactlyWhen, InOrder}
+use Rattle.roads.specs.Calls.{said, answerText, textPlace}
+use Rattle.texts.specs.Texts.{lineFeed, linesOf, to, zoned}
+use Rattle.recipes.specs.Recipes.{Sent, sendings, inTurn, isDone, leftBy, roomBy, lengthsBy, Loading, refusedWith, formRows, loadOf, loadOrder, loadRows}
+
+-- the lines of a recipe sent singly, in turn
+abbrev pub sentSingly : Record → List ℕ → List ℕ → List Sent
+sentSingly r recipe room = inTurn r (sendings (linesOf recipe)) room
+
+-- ---- when each number is given
+
+-- each number exactly where its test holds and no earlier one does, 0 exactly where none holds, and in the printed order: `load-exactly` and `load-order`, in proofs/Told.antt
+abbrev pub LoadExactly : Type 0
+LoadExactly = (r : Record) (recipe room : List ℕ) → ExactlyWhen (loadRows r recipe room) (loadOf r recipe room .answered .said .number)
+
+abbrev pub LoadInOrder : Type 0
+LoadInOrder = (r : Record) (recipe room : List ℕ) → InOrder (loadRows r recipe room) loadOrder
+
+-- "the first line that, sent in turn, is not answered 0": k lines stand before it
+pub record FirstRefused (all : List Sent) (k : ℕ) (one : Sent) : Type 0 where
+  pub before : List Sent
+  pub behind : List Sent
+  pub split : all ≡ before ++ one ∷ behind
+  pub count : length before ≡ k
+  pub done : every isDone before ≡ true
+  pub refused : isDone one ≡ false
+
+-- 1, 2 and 14 do not apply
+abbrev pub WellFormed : Record → List ℕ → List ℕ → Type 0
+WellFormed r recipe room = first (formRows r (linesOf recipe) room) ≡ 0
+
+-- the line number, from 1, exactly where that line is the first refused, and 1, 2 and 14 do not apply; in all other cases it is 0. `line-exactly`, in proofs/Told.antt
+abbrev pub LineExactly : Type 0
+LineExactly = (r : Record) (recipe room : List ℕ) (k : ℕ)
+    → (loadOf r recipe room .line ≡ suc k) ↔ (WellFormed r recipe room × ((one : Sent) × FirstRefused (sentSingly r recipe room) k one))
+
+-- ---- "whole": "record and replies are those of sending them singly"
+
+pub record Whole (r : Record) (recipe room : List ℕ) : Type 0 where
+  -- each, sent in turn, is answered 0
+  pub each-done : every isDone (sentSingly r recipe room) ≡ true
+  pub record-left : loadOf r recipe room .answered .after ≡ leftBy r (sentSingly r recipe room)
+  -- in each 32 bytes the reply, of sending them singly
+  pub room-left : loadOf r recipe room .answered .said .room ≡ roomBy (sentSingly r recipe room) room
+  pub lengths-told : loadOf r recipe room .lengths ≡ lengthsBy (sentSingly r recipe room)
+  pub no-line : (loadOf r recipe room .line ≡ 0) × (loadOf r recipe room .place ≡ 0)
+
+-- `whole`, in proofs/Told.antt: of a done recipe
+abbrev pub LoadsWhole : Type 0
+LoadsWhole = (r : Record) (recipe room : List ℕ) → loadOf r recipe room .answered .said .number ≡ 0 → Whole r recipe room
+
+-- and it is done where it may be: 1, 2 and 14 do not apply, and each line, sent in turn, is answered 0; so a card that loads nothing is ruled out. `loads`, in proofs/Told.antt
+abbrev pub LoadsIfEachIsDone : Type 0
+LoadsIfEachIsDone = (r : Record) (recipe room : List ℕ) → WellFormed r recipe room → every isDone (sentSingly r recipe room) ≡ true → loadOf r recipe room .answered .said .number ≡ 0
+
+-- ---- "or not at all"
+
+-- why it was refused: 1, 2 or 14, before any line is tried, with line number 0; or the first refused line, by its number, its answer and its place
+pub data Because (r : Record) (recipe room : List ℕ) : Type 0 where
+  of-its-form : loadOf r recipe room ≡ refusedWith r room (first (formRows r (linesOf recipe) room)) 0 0 → Because r recipe room
+  of-a-line : (k : ℕ) (one : Sent) → WellFormed r recipe room → FirstRefused (sentSingly r recipe room) k one
+      → loadOf r recipe room ≡ refusedWith r room (one .answered .said .number) (suc k) (one .place) → Because r recipe room
+
+-- "the card keeps the sixteen zones as they were before the first line"; the room is as it was, and no length is told (refusedWith, Recipes.antt). `or-not-at-all`, in proofs/Told.antt
+abbrev pub OrNotAtAll : Type 0
+OrNotAtAll = (r : Record) (recipe room : List ℕ) → (loadOf r recipe room .answered .said .number ≡ 0 → ⊥) → Because r recipe room
+
+-- ---- few lines
+
+-- "Zero lines are done and change nothing", in any room, also an empty one; but 2 comes before. `zero-lines`, in proofs/Few.antt
+pub record ZeroLines (r : Record) (room : List ℕ) : Type 0 where
+  pub done : sound r ≡ true → loadOf r [] room ≡ record { answered = record { said = said 0 [] [] room; after = r }; line = 0; place = 0; lengths = replicate 64 0 }
+  pub unsound : sound r ≡ false → loadOf r [] room ≡ refusedWith r room 2 0 0
+
+abbrev pub ZeroLinesAreDone : Type 0
+ZeroLinesAreDone = (r : Record) (room : List ℕ) → ZeroLines r room
+
+-- a recipe of one line, with its zone and tab, is the text call: its number, its record and its place and, where it is done, its room and length. `one-line`, in proofs/Few.antt
+pub record IsText (r : Record) (recipe : List ℕ) (zone : ℕ) (command room : List ℕ) : Type 0 where
+  pub number : loadOf r recipe room .answered .said .number ≡ answerText r zone command room .said .number
+  pub record-left : loadOf r recipe room .answered .after ≡ answerText r zone command room .after
+  pub place : loadOf r recipe room .place ≡ textPlace r zone command room
+  pub room-left : loadOf r recipe room .answered .said .number ≡ 0 → loadOf r recipe room .answered .said .room ≡ answerText r zone command room .said .room
+  pub length : loadOf r recipe room .answered .said .number ≡ 0 → getD (loadOf r recipe room .lengths) 0 0 ≡ answerText r zone command room .said .length
+
+abbrev pub OneLineIsText : Type 0
+OneLineIsText = (r : Record) (recipe line : List ℕ) (zone : ℕ) (command room : List ℕ) → linesOf recipe ≡ line ∷ [] → zoned line ≡ to zone command → IsText r recipe zone command room
+
+-- ---- one recipe behind another
+
+-- "where a first recipe is empty or ends in a line feed"
+abbrev pub EndsItsLine : List ℕ → Type 0
+EndsItsLine recipe = (recipe ≡ []) ⊎ ((front : List ℕ) × (recipe ≡ front ++ (lineFeed ∷ [])))
+
+-- the first from r, the second from the record that it left, with the room behind the first's replies
+pub record Behind (r : Record) (recipe second room : List ℕ) (one two both : Loading) : Type 0 where
+  pub done : both .answered .said .number ≡ 0
+  pub record-left : both .answered .after ≡ two .answered .after
+  -- the first's replies, and the second's behind them
+  pub room-left : both .answered .said .room ≡ take (32 * length (linesOf recipe)) (one .answered .said .room) ++ two .answered .said .room
+  -- the first's lengths, and the second's behind them
+  pub lengths-told : both .lengths ≡ take (length (linesOf recipe)) (one .lengths) ++ take (64 - length (linesOf recipe)) (two .lengths)
+
+-- `one-behind-another`, in proofs/Few.antt
+abbrev pub OneBehindAnother : Type 0
+OneBehindAnother = (r : Record) (recipe second room : List ℕ) → EndsItsLine recipe → length (linesOf recipe) + length (linesOf second) ≤ 64
+    → loadOf r recipe room .answered .said .number ≡ 0
+    → loadOf (loadOf r recipe room .answered .after) second (drop (32 * length (linesOf recipe)) room) .answered .said .number ≡ 0
+    → Behind r recipe second room (loadOf r recipe room) (loadOf (loadOf r recipe room .answered .after) second (drop (32 * length (linesOf recipe)) room)) (loadOf r (recipe ++ second) room)
