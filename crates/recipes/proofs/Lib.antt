@@ -3,3 +3,5 @@ pub mod Replies
 pub mod Sent
 pub mod Turns
 pub mod Cases
+pub mod Told
+pub mod Ended

@@ -89,10 +89,10 @@ shift-more k zero = refl
 shift-more k (suc m) = omega arith
 
 -- a line that comes to o, sent with the first 32 bytes of the room
-abbrev sentAs : Result Record → ℕ → List Row → List ℕ → Sent
+abbrev pub sentAs : Result Record → ℕ → List Row → List ℕ → Sent
 sentAs o place rows room = record { answered = inTextReply o (take 32 room); place = place; refusals = rows }
 
-in-turn-next : (r : Record) (line : Sending) (lines : List Sending) (room : List ℕ) → sound r ≡ true → 32 ≤ length room
+pub in-turn-next : (r : Record) (line : Sending) (lines : List Sending) (room : List ℕ) → sound r ≡ true → 32 ≤ length room
     → inTurn r (line ∷ lines) room ≡ sentAs (portResult r line) (portPlace r line) (portRows r (line .zone) (line .command)) room ∷ inTurn (portResult r line .after) lines (drop 32 room)
 unfolding inTurn
 in-turn-next r line lines room s h =

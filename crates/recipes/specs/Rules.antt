@@ -1,6 +1,6 @@
 -- What is proved of loading a recipe, for every record, all bytes and every room. Above each statement stands where. What it does among other calls stands in session/specs/Recipes.antt.
 -- "P → ⊥" says that P does not hold, "P ⊎ Q" that one of the two does, "P × Q" that both do, "P ↔ Q" that each holds where the other does.
-use Prim.Native.Nat.{ℕ, suc, _+_, _-_, _*_, _≤_, _<_}
+use Prim.Native.Nat.{ℕ, suc, _+_, _-_, _*_, _≤_}
 use mathlib.Core.Path.{_≡_}
 use mathlib.Core.Logic.{_⊎_, _↔_}
 use mathlib.Core.Bool.{true, false}

@@ -1,11 +1,12 @@
 -- Demand 1, of each call: one of the numbered answers, the first that applies in the printed order; a refusal leaves the record and writes the acknowledgement alone. Assumes nothing.
-use Prim.Native.Nat.{ℕ, _≤_}
+use Prim.Native.Nat.{ℕ, _*_, _≤_}
 use mathlib.Core.Path.{_≡_, refl, ap, _∙_}
 use mathlib.Core.Bool.{Bool, true, false, cond, _&&_, _||_}
 use mathlib.Core.List.{List, [], _∷_}
 use native.Mathlib.Omega.{arith}
 use lib.Dec.{eqb}
-use lib.ListN.{length}
+use lib.ListN.{length, take, drop, length-append, length-drop}
+use lib.Seq.{length-take-le}
 use borrow.Author.Tests.{eq-eqb, ne-eqb, eqb-true, eqb-false, ltb-false}
 use Rattle.zone.specs.declared.figures.Figures.{Figures}
 use Rattle.zone.specs.Lists.{isZero}
@@ -28,7 +29,12 @@ use Rattle.roads.specs.Acknowledgements.{textRefusal, textReply, frameRefusal, 
 use Rattle.roads.specs.Calls.{Answered, said, tooSmall, parsedAt, textRows, textResult, inTextReply, answerText, zoneFound, holder, frameRows, frameResult, inFrameReply, answerFrame, composeRows, composed, composedLine, composedFrame}
 use Rattle.roads.proofs.Lengths.{either, text-fits, frame-fits, line-fits, whole-frame-fits, room-kept}
 use Rattle.roads.proofs.Exactly.{text-order, frame-order, compose-order, write-line-order, write-frame-order, text-exactly, frame-exactly, compose-line-exactly, compose-frame-exactly}
-use Rattle.session.specs.Sessions.{text, frame, composeLine, composeFrame, add, remove, report, apply, chooseSource, setpointInUse, book, ship, merge, repair, Call, inRoom, quiet, answerTo, Done}
+use Rattle.texts.specs.Texts.{linesOf}
+use Rattle.recipes.specs.Recipes.{Sending, sendings, inTurn, roomBy, loadOf}
+use Rattle.recipes.proofs.Cases.{as-many}
+use Rattle.recipes.proofs.Ended.{load-refused}
+use Rattle.recipes.proofs.Told.{Ends, by-its-form, by-a-line, well-done, ends, fine, load-order, number-first, load-exactly}
+use Rattle.session.specs.Sessions.{text, frame, composeLine, composeFrame, load, add, remove, report, apply, chooseSource, setpointInUse, book, ship, merge, repair, Call, inRoom, quiet, answerTo, Done}
 use Rattle.session.specs.Demands.{order, refusals, among, lent, fixed, EveryCallAnswers, WritesHaveTheWholeOrder, CallsHaveTheWholeOrder}
 
 -- ---- the first in the printed order
@@ -60,6 +66,7 @@ in-order r (inRoom (text n line) room) = text-order r n line room
 in-order r (inRoom (frame bytes) room) = frame-order r bytes room
 in-order r (inRoom (composeLine c) room) = compose-order (carriesCommand textRoad c) room
 in-order r (inRoom (composeFrame a c) room) = compose-order (addressInRange a && carriesCommand frameRoad c) room
+in-order r (inRoom (load recipe) room) = load-order r recipe room
 in-order r (quiet (add n a range)) = add-order r n a range
 in-order r (quiet (remove n)) = remove-order r n
 in-order r (quiet (report n state actual)) = report-order r n state actual
@@ -77,6 +84,7 @@ first-given r (inRoom (text n line) room) = refl
 first-given r (inRoom (frame bytes) room) = refl
 first-given r (inRoom (composeLine c) room) = refl
 first-given r (inRoom (composeFrame a c) room) = refl
+first-given r (inRoom (load recipe) room) = number-first r recipe room
 first-given r (quiet (add n a range)) = refl
 first-given r (quiet (remove n)) = refl
 first-given r (quiet (report n state actual)) = refl
@@ -93,6 +101,7 @@ exactly r (inRoom (text n line) room) = text-exactly r n line room
 exactly r (inRoom (frame bytes) room) = frame-exactly r bytes room
 exactly r (inRoom (composeLine c) room) = compose-line-exactly c room
 exactly r (inRoom (composeFrame a c) room) = compose-frame-exactly a c room
+exactly r (inRoom (load recipe) room) = load-exactly r recipe room
 exactly r (quiet (add n a range)) = add-exactly r n a range
 exactly r (quiet (remove n)) = remove-exactly r n
 exactly r (quiet (report n state actual)) = report-exactly r n state actual
@@ -165,6 +174,7 @@ refused r (inRoom (text n line) room) u = text-refused r n line room u
 refused r (inRoom (frame bytes) room) u = frame-refused r bytes room u
 refused r (inRoom (composeLine c) room) u = rw (ne-eqb (first (composeRows (carriesCommand textRoad c) room)) 0 u)
 refused r (inRoom (composeFrame a c) room) u = rw (ne-eqb (first (composeRows (addressInRange a && carriesCommand frameRoad c) room)) 0 u)
+refused r (inRoom (load recipe) room) u = load-refused r recipe room u
 refused r (quiet (add n a range)) u = kept r (addOf r n a range) (add-keeps r n a range) u
 refused r (quiet (remove n)) u = kept r (removeOf r n) (remove-keeps r n) u
 refused r (quiet (report n state actual)) u = kept r (reportOf r n state actual) (report-keeps r n state actual) u
@@ -211,12 +221,33 @@ composed-room fits bytes room h = by-size (tooSmall room) refl
     by-size true e = rw e
     by-size false e = room-kept put room (omega (arith, ltb-false (length room) 32 e, either (isZero (first (composeRows fits room))) bytes [] 32 h (omega arith)))
 
+-- the lines of a recipe have 32 bytes each, and there are as many
+lines-room : (r : Record) (lines : List Sending) (room : List ℕ) → 32 * length lines ≤ length room → length (roomBy (inTurn r lines room) room) ≡ length room
+unfolding inTurn
+lines-room r [] room h = refl
+lines-room r (line ∷ lines) room h =
+    let one = answerText r (line .zone) (line .command) (take 32 room) in
+    let rest = lines-room (one .after) lines (drop 32 room) (omega (arith, length-drop 32 room)) in
+    rw (length-append (one .said .room) (roomBy (inTurn (one .after) lines (drop 32 room)) (drop 32 room)))
+    (omega (arith, text-room r (line .zone) (line .command) (take 32 room), length-take-le 32 room (omega arith), rest, length-drop 32 room))
+
+load-room : (r : Record) (recipe room : List ℕ) → length (loadOf r recipe room .answered .said .room) ≡ length room
+load-room r recipe room = by-end (ends r recipe room)
+  where
+    by-end : Ends r recipe room → length (loadOf r recipe room .answered .said .room) ≡ length room
+    by-end (by-its-form n e) = rw e
+    by-end (by-a-line k one w f n e) = rw e
+    by-end (well-done w d e) =
+        let f = fine r recipe room w in
+        rw e (lines-room r (sendings (linesOf recipe)) room (rw (as-many (linesOf recipe) (f .formed)) (f .enough)))
+
 same-room : (r : Record) (call : Call) → length (answerTo r call .said .room) ≡ length (lent call)
 unfolding composedLine composedFrame
 same-room r (inRoom (text n line) room) = text-room r n line room
 same-room r (inRoom (frame bytes) room) = frame-room r bytes room
 same-room r (inRoom (composeLine c) room) = composed-room (carriesCommand textRoad c) (lineOf c) room (line-fits c)
 same-room r (inRoom (composeFrame a c) room) = composed-room (addressInRange a && carriesCommand frameRoad c) (frameOf a c) room (whole-frame-fits a c)
+same-room r (inRoom (load recipe) room) = load-room r recipe room
 same-room r (quiet call) = refl
 
 pub answers : EveryCallAnswers

@@ -27,10 +27,11 @@ use Rattle.card.proofs.Sets.{add-sets, book-at-zone, ship-at-zone, book-after, 
 use Rattle.card.proofs.Merging.{merge-at-zones, merge-after, merge-folds}
 use Rattle.roads.specs.Calls.{said}
 use Rattle.session.specs.Sessions.{Quiet, add, remove, report, apply, chooseSource, setpointInUse, book, ship, merge, repair, Call, inRoom, quiet, answerTo, after, Done, run, answersOf, Throughout}
-use Rattle.session.specs.Changes.{Merges, merged, Removes, removed, merged-away, Adds, added, Rebooks, booked, shipped, moved-in, Becomes, stays, written, was-reported, was-removed, was-added, was-chosen, was-rebooked, was-mended, NotAdded}
+use Rattle.session.specs.Changes.{Merges, merged, Removes, removed, merged-away, Adds, added, Rebooks, booked, shipped, moved-in, Becomes, stays, written, was-reported, was-removed, was-added, was-chosen, was-rebooked, was-mended, was-loaded, NotAdded}
 use Rattle.session.specs.Demands.{refusedSilently, later, PointsAt, books, ships, OtherRoad, by-frame, by-text, Rerouted, over, as-before, other-road}
 use Rattle.session.specs.Bookings.{kilogramsOn, RefusedWhere, BookingsAreJudged, AbsentGivesThree, onAllZones, Amounts, nothing, amounts, counted, doneOf, SinceEmpty, Conserved, AlwaysInBounds, NotRebooked, LeftAlone, ByEitherRoad, FollowsTheHead}
 use Rattle.session.proofs.Answering.{record-kept, by-done}
+use Rattle.session.proofs.InTurn.{in-turn-kept}
 use Rattle.session.proofs.Changes.{becomes}
 use Rattle.session.proofs.Demand1.{stays-removed, stays-gone, removal-sound, call-three}
 use Rattle.session.proofs.Demand3.{stays-sound, same-answer}
@@ -118,6 +119,7 @@ one-left n r call u = by-change (becomes r call n)
     by-change (was-chosen source millivolts w q s) = s .kilograms
     by-change (was-rebooked kg w q s) = absurd (u .not-rebooked kg w)
     by-change (was-mended window w q s) = s .kilograms
+    by-change (was-loaded writes w q s) = in-turn-kept (λ z. z .kilograms) (λ z f l k. k .kilograms) writes (zoneAt r n) _ s
 
 pub left-alone : LeftAlone
 left-alone r n [] u = refl

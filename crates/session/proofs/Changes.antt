@@ -1,19 +1,23 @@
--- What a call does to a zone: nothing, or what a done write, report, removal, addition, choice of a source, booking, shipment, merging or repair sets. Assumes nothing.
+-- What a call does to a zone: nothing, or what a done write, report, removal, addition, choice of a source, booking, shipment, merging, repair or recipe sets. Assumes nothing.
 use Prim.Native.Nat.{ℕ, _+_, _-_}
 use mathlib.Core.Path.{_≡_, refl, sym, ap, _∙_, subst}
-use mathlib.Core.Bool.{Bool, true, false}
-use mathlib.Core.List.{List}
+use mathlib.Core.Bool.{Bool, true, false, cond}
+use mathlib.Core.List.{List, [], _∷_}
 use native.Mathlib.Omega.{arith}
+use lib.ListN.{take, drop}
 use lib.Dec.{eqb}
-use borrow.Author.Tests.{eqb-true, eqb-false}
+use borrow.Author.Tests.{eqb-true, eqb-false, eq-eqb, ne-eqb}
 use Rattle.zone.specs.declared.figures.Figures.{Figures}
 use Rattle.zone.specs.declared.figures.Figures.the-variants.{AhueWindow}
 use Rattle.zone.specs.declared.figures.WindowFigures.{WindowFigures}
 use Rattle.zone.specs.declared.figures.Command.{Command}
 use Rattle.zone.specs.declared.figures.Command.the-variants.{Read, Write}
 use Rattle.zone.specs.declared.sources.Source.{Source}
+use Rattle.zone.specs.declared.zones.Zone.{Zone}
+use Rattle.zone.specs.Lists.{isZero, every}
 use Rattle.zone.specs.Zones.{newZone, emptyZone, stateNumbered, opened}
 use Rattle.zone.specs.Rules.{SetsFigures, SetsStatus, SetsOrigin, SetsKilograms}
+use Rattle.zone.proofs.Tests.{never, both}
 use Rattle.zone.proofs.Mended.{by-window, not-shut}
 use Rattle.card.specs.declared.records.Record.{Record}
 use Rattle.card.specs.Answers.{Result}
@@ -31,10 +35,14 @@ use Rattle.frame.specs.declared.reading.Framed.the-variants.{Request}
 use Rattle.frame.specs.Frame.{addressIn, frameRead}
 use Rattle.roads.specs.Calls.{textResult, answerText, zoneFound, frameResult, answerFrame}
 use Rattle.roads.proofs.Local.{text-touches, frame-touches}
-use Rattle.session.specs.Sessions.{text, frame, composeLine, composeFrame, add, remove, report, apply, chooseSource, setpointInUse, book, ship, merge, repair, Call, inRoom, quiet, after, Done}
-use Rattle.session.specs.Changes.{Writes, by-apply, by-line, by-frame, Reports, reported, merged, Removes, removed, merged-away, Adds, added, Chooses, chosen, Rebooks, booked, shipped, moved-in, Repairs, repaired, WhatIsDoneIsSet, Becomes, stays, written, was-reported, was-removed, was-added, was-chosen, was-rebooked, was-mended, EveryZoneBecomes}
+use Rattle.texts.specs.Texts.{linesOf}
+use Rattle.recipes.specs.Recipes.{Sending, sendings, inTurn, isDone, leftBy, Loading}
+use Rattle.recipes.proofs.Ended.{load-done}
+use Rattle.session.specs.Sessions.{text, frame, composeLine, composeFrame, load, add, remove, report, apply, chooseSource, setpointInUse, book, ship, merge, repair, Call, inRoom, quiet, after, Done}
+use Rattle.session.specs.Changes.{Writes, by-apply, by-line, by-frame, Reports, reported, merged, Removes, removed, merged-away, Adds, added, Chooses, chosen, Rebooks, booked, shipped, moved-in, Repairs, repaired, writeIn, writesTo, Loads, loaded, SetsInTurn, WhatIsDoneIsSet, Becomes, stays, written, was-reported, was-removed, was-added, was-chosen, was-rebooked, was-mended, was-loaded, EveryZoneBecomes}
 use Rattle.session.proofs.Answering.{record-kept, by-done}
-use Rattle.session.proofs.Done.{Applied, line-is-done, frame-is-done}
+use Rattle.session.proofs.Done.{Applied, LineDone, line-is-done, frame-is-done}
+use Rattle.session.proofs.InTurn.{in-turn-append}
 
 pub by-zone : (n m : ℕ) {P : Type 0} → (n ≡ m → P) → ((n ≡ m → ⊥) → P) → P
 by-zone n m {P} f g = by-test (eqb n m) refl
@@ -112,30 +120,7 @@ merge-becomes r a b n d =
     (λ e. subst at (sym e) (was-rebooked (zoneAt r b .kilograms + zoneAt r a .kilograms) (moved-in a (merged d) refl) (k .present-b) (f .moved)))
     (λ v. stays (f .others n u v)))
 
-pub becomes : EveryZoneBecomes
-becomes r (inRoom (text m line) room) n = text-becomes r m line room n
-becomes r (inRoom (frame bytes) room) n = frame-becomes r bytes room n
-becomes r (inRoom (composeLine c) room) n = stays refl
-becomes r (inRoom (composeFrame a c) room) n = stays refl
-becomes r (quiet (add m a range)) n =
-    at-zone r (quiet (add m a range)) m n (add-keeps r m a range .others) (λ d. was-added a range (added d) (add-absent r m a range d) (add-sets r m a range d))
-becomes r (quiet (remove m)) n = at-zone r (quiet (remove m)) m n (remove-keeps r m .others) (λ d. was-removed (removed d) (remove-at-zone r m d .present) (remove-sets r m d))
-becomes r (quiet (report m state actual)) n =
-    at-zone r (quiet (report m state actual)) m n (report-keeps r m state actual .others) (λ d. was-reported state actual (reported d) (report-at-zone r m state actual d .present) (report-sets r m state actual d))
-becomes r (quiet (apply m c)) n =
-    at-zone r (quiet (apply m c)) m n (apply-keeps r m c .others) (λ d. by-command r (applyOf r m c .after) (quiet (apply m c)) m c refl d (λ f e. subst (λ (x : Command). Writes m f r (quiet (apply m x))) (sym e) (by-apply (subst (λ (x : Command). Done r (quiet (apply m x))) e d))))
-becomes r (quiet (chooseSource m source millivolts)) n =
-    at-zone r (quiet (chooseSource m source millivolts)) m n (choose-source-keeps r m source millivolts .others)
-    (λ d. was-chosen source millivolts (chosen d) (choose-source-at-zone r m source millivolts d .present) (choose-source-sets r m source millivolts d))
-becomes r (quiet (setpointInUse m)) n = stays (ap (λ (s : Record). zoneAt s n) (setpoint-in-use-alters-nothing r m))
-becomes r (quiet (book m kg)) n =
-    at-zone r (quiet (book m kg)) m n (book-keeps r m kg .others) (λ d. was-rebooked (zoneAt r m .kilograms + kg) (booked kg d refl) (book-at-zone r m kg d .present) (book-sets r m kg d))
-becomes r (quiet (ship m kg)) n =
-    at-zone r (quiet (ship m kg)) m n (ship-keeps r m kg .others) (λ d. was-rebooked (zoneAt r m .kilograms - kg) (shipped kg d (omega (arith, ship-held r m kg d))) (ship-at-zone r m kg d .present) (ship-sets r m kg d))
-becomes r (quiet (merge a b)) n = by-done r (quiet (merge a b)) (merge-becomes r a b n) (λ u. stays (ap (λ (s : Record). zoneAt s n) (record-kept r (quiet (merge a b)) u)))
-becomes r (quiet repair) n = by-done r (quiet repair) (repair-becomes r n) (λ u. stays (ap (λ (s : Record). zoneAt s n) (record-kept r (quiet repair) u)))
-
--- ---- what is done is set
+-- ---- what a line or a frame sets
 
 -- the command that came by a road is the one that was read
 pub command-is : {c d : Command} → Known c ≡ Known d → c ≡ d
@@ -164,6 +149,87 @@ frame-sets r n f bytes room p e d =
     let command : w .command ≡ Write f = cc in
     applied-sets r n (w .command) f (subst (λ (m : ℕ). Applied (frameResult r bytes room) r m (w .command)) zone (w .came)) command
 
+-- ---- a recipe
+
+-- what a done line does to zone n
+line-sets-one : (r : Record) (line : Sending) (room : List ℕ) (n : ℕ) → answerText r (line .zone) (line .command) room .said .number ≡ 0
+    → SetsInTurn (zoneAt r n) (cond (eqb (line .zone) n) (writeIn (lineRead (line .command))) []) (zoneAt (answerText r (line .zone) (line .command) room .after) n)
+line-sets-one r line room n d =
+    by-zone (line .zone) n
+    (λ e. rw (eq-eqb (line .zone) n e) (subst (λ (m : ℕ). SetsInTurn (zoneAt r m) (writeIn (lineRead (line .command))) (zoneAt (answerText r (line .zone) (line .command) room .after) m)) e (here (w .command) (w .reads))))
+    (λ u. rw (ne-eqb (line .zone) n u) (text-touches r (line .zone) (line .command) room n (λ e. u (sym e))))
+  where
+    w : LineDone r (line .zone) (line .command) room
+    w = line-is-done r (line .zone) (line .command) room d
+
+    here : (c : Command) → lineRead (line .command) ≡ Known c → SetsInTurn (zoneAt r (line .zone)) (writeIn (lineRead (line .command))) (zoneAt (answerText r (line .zone) (line .command) room .after) (line .zone))
+    here (Read group) e = rw e (ap (λ (s : Record). zoneAt s (line .zone)) (text-after r (line .zone) (line .command) room ∙ after-of (w .came .same) ∙ ap (λ (c : Command). applyOf r (line .zone) c .after) (command-is (sym (w .reads) ∙ e)) ∙ read-alters-nothing r (line .zone) group))
+    here (Write f) e = rw e (zoneAt (answerText r (line .zone) (line .command) room .after) (line .zone), line-sets r (line .zone) f (line .command) room e d, refl)
+
+-- and what done lines do to it, in turn
+lines-set-all : (r : Record) (lines : List Sending) (room : List ℕ) (n : ℕ) → every isDone (inTurn r lines room) ≡ true → SetsInTurn (zoneAt r n) (writesTo n lines) (zoneAt (leftBy r (inTurn r lines room)) n)
+unfolding inTurn
+lines-set-all r [] room n d = refl
+lines-set-all r (line ∷ lines) room n d =
+    let one = answerText r (line .zone) (line .command) (take 32 room) in
+    let parts = both (isZero (one .said .number)) (every isDone (inTurn (one .after) lines (drop 32 room))) d in
+    in-turn-append (cond (eqb (line .zone) n) (writeIn (lineRead (line .command))) []) (writesTo n lines) (zoneAt r n) (zoneAt (one .after) n) _
+    (line-sets-one r line (take 32 room) n (eqb-true (one .said .number) 0 (parts .0)))
+    (lines-set-all (one .after) lines (drop 32 room) n (parts .1))
+
+load-sets : (r : Record) (recipe room : List ℕ) (n : ℕ) → Done r (inRoom (load recipe) room) → SetsInTurn (zoneAt r n) (writesTo n (sendings (linesOf recipe))) (zoneAt (after r (inRoom (load recipe) room)) n)
+load-sets r recipe room n d =
+    let k = load-done r recipe room d in
+    rw (ap (λ (o : Loading). o .answered .after) (k .2)) (lines-set-all r (sendings (linesOf recipe)) room n (k .1))
+
+-- a zone that is not there has no done line
+lines-leave : (r : Record) (lines : List Sending) (room : List ℕ) (n : ℕ) → every isDone (inTurn r lines room) ≡ true → zoneAt r n .present ≡ false → zoneAt (leftBy r (inTurn r lines room)) n ≡ zoneAt r n
+unfolding inTurn
+lines-leave r [] room n d a = refl
+lines-leave r (line ∷ lines) room n d a =
+    let one = answerText r (line .zone) (line .command) (take 32 room) in
+    let parts = both (isZero (one .said .number)) (every isDone (inTurn (one .after) lines (drop 32 room))) d in
+    let w = line-is-done r (line .zone) (line .command) (take 32 room) (eqb-true (one .said .number) 0 (parts .0)) in
+    let same : zoneAt (one .after) n ≡ zoneAt r n = text-touches r (line .zone) (line .command) (take 32 room) n (λ e. never (sym a ∙ ap (λ (m : ℕ). zoneAt r m .present) e ∙ w .present .present)) in
+    lines-leave (one .after) lines (drop 32 room) n (parts .1) (ap (λ (z : Zone). z .present) same ∙ a) ∙ same
+
+load-becomes : (r : Record) (recipe room : List ℕ) (n : ℕ) → Done r (inRoom (load recipe) room) → Becomes r n (inRoom (load recipe) room) (zoneAt (after r (inRoom (load recipe) room)) n)
+load-becomes r recipe room n d = by-presence (zoneAt r n .present) refl
+  where
+    by-presence : (t : Bool) → zoneAt r n .present ≡ t → Becomes r n (inRoom (load recipe) room) (zoneAt (after r (inRoom (load recipe) room)) n)
+    by-presence true p = was-loaded (writesTo n (sendings (linesOf recipe))) (loaded recipe room d refl) p (load-sets r recipe room n d)
+    by-presence false p =
+        let k = load-done r recipe room d in
+        stays (ap (λ (o : Loading). zoneAt (o .answered .after) n) (k .2) ∙ lines-leave r (sendings (linesOf recipe)) room n (k .1) p)
+
+-- ---- what becomes of a zone
+
+pub becomes : EveryZoneBecomes
+becomes r (inRoom (text m line) room) n = text-becomes r m line room n
+becomes r (inRoom (frame bytes) room) n = frame-becomes r bytes room n
+becomes r (inRoom (composeLine c) room) n = stays refl
+becomes r (inRoom (composeFrame a c) room) n = stays refl
+becomes r (inRoom (load recipe) room) n = by-done r (inRoom (load recipe) room) (load-becomes r recipe room n) (λ u. stays (ap (λ (s : Record). zoneAt s n) (record-kept r (inRoom (load recipe) room) u)))
+becomes r (quiet (add m a range)) n =
+    at-zone r (quiet (add m a range)) m n (add-keeps r m a range .others) (λ d. was-added a range (added d) (add-absent r m a range d) (add-sets r m a range d))
+becomes r (quiet (remove m)) n = at-zone r (quiet (remove m)) m n (remove-keeps r m .others) (λ d. was-removed (removed d) (remove-at-zone r m d .present) (remove-sets r m d))
+becomes r (quiet (report m state actual)) n =
+    at-zone r (quiet (report m state actual)) m n (report-keeps r m state actual .others) (λ d. was-reported state actual (reported d) (report-at-zone r m state actual d .present) (report-sets r m state actual d))
+becomes r (quiet (apply m c)) n =
+    at-zone r (quiet (apply m c)) m n (apply-keeps r m c .others) (λ d. by-command r (applyOf r m c .after) (quiet (apply m c)) m c refl d (λ f e. subst (λ (x : Command). Writes m f r (quiet (apply m x))) (sym e) (by-apply (subst (λ (x : Command). Done r (quiet (apply m x))) e d))))
+becomes r (quiet (chooseSource m source millivolts)) n =
+    at-zone r (quiet (chooseSource m source millivolts)) m n (choose-source-keeps r m source millivolts .others)
+    (λ d. was-chosen source millivolts (chosen d) (choose-source-at-zone r m source millivolts d .present) (choose-source-sets r m source millivolts d))
+becomes r (quiet (setpointInUse m)) n = stays (ap (λ (s : Record). zoneAt s n) (setpoint-in-use-alters-nothing r m))
+becomes r (quiet (book m kg)) n =
+    at-zone r (quiet (book m kg)) m n (book-keeps r m kg .others) (λ d. was-rebooked (zoneAt r m .kilograms + kg) (booked kg d refl) (book-at-zone r m kg d .present) (book-sets r m kg d))
+becomes r (quiet (ship m kg)) n =
+    at-zone r (quiet (ship m kg)) m n (ship-keeps r m kg .others) (λ d. was-rebooked (zoneAt r m .kilograms - kg) (shipped kg d (omega (arith, ship-held r m kg d))) (ship-at-zone r m kg d .present) (ship-sets r m kg d))
+becomes r (quiet (merge a b)) n = by-done r (quiet (merge a b)) (merge-becomes r a b n) (λ u. stays (ap (λ (s : Record). zoneAt s n) (record-kept r (quiet (merge a b)) u)))
+becomes r (quiet repair) n = by-done r (quiet repair) (repair-becomes r n) (λ u. stays (ap (λ (s : Record). zoneAt s n) (record-kept r (quiet repair) u)))
+
+-- ---- what is done is set
+
 figures-set : (r : Record) (call : Call) (n : ℕ) (f : Figures) → Writes n f r call → SetsFigures (zoneAt r n) f (zoneAt (after r call) n)
 figures-set r call n f (by-apply d) = write-sets r n f d
 figures-set r call n f (by-line line room e d) = line-sets r n f line room e d
@@ -191,5 +257,8 @@ kilograms-set r call n kg (moved-in a (merged d) e) = rw e (merge-folds r a n d 
 end-set : (r : Record) (call : Call) (n : ℕ) (f : WindowFigures) → Repairs n f r call → SetsFigures (zoneAt r n) (AhueWindow (opened f)) (zoneAt (after r call) n)
 end-set r call n f (repaired d s) = repair-mends r (repair-done r d) .ends n f s
 
+lines-set : (r : Record) (call : Call) (n : ℕ) (writes : List Figures) → Loads n writes r call → SetsInTurn (zoneAt r n) writes (zoneAt (after r call) n)
+lines-set r call n writes (loaded recipe room d e) = rw (← e) (load-sets r recipe room n d)
+
 pub sets : WhatIsDoneIsSet
-sets r call n = record { figures-set = figures-set r call n; status-set = status-set r call n; emptied = emptied r call n; made-new = made-new r call n; origin-set = origin-set r call n; kilograms-set = kilograms-set r call n; end-set = end-set r call n }
+sets r call n = record { figures-set = figures-set r call n; status-set = status-set r call n; emptied = emptied r call n; made-new = made-new r call n; origin-set = origin-set r call n; kilograms-set = kilograms-set r call n; end-set = end-set r call n; lines-set = lines-set r call n }

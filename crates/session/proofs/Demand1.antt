@@ -3,13 +3,14 @@ use Prim.Native.Nat.{ℕ, _≤_}
 use mathlib.Core.Path.{_≡_, refl, sym, ap, _∙_, subst}
 use mathlib.Core.Bool.{Bool, true, false, not, _&&_}
 use mathlib.Core.List.{List, [], _∷_}
-use lib.ListN.{length}
+use lib.ListN.{length, take, drop}
 use lib.Dec.{leb, eqb}
-use borrow.Author.Tests.{eqb-true, le-ltb}
+use borrow.Author.Tests.{eqb-true, ne-eqb, le-ltb}
 use Rattle.zone.specs.declared.zones.Zone.{Zone}
+use Rattle.zone.specs.Lists.{isZero, every, some}
 use Rattle.zone.specs.Zones.{emptyZone, holds}
 use Rattle.zone.specs.Rules.{SameHead}
-use Rattle.zone.proofs.Tests.{never, or-true}
+use Rattle.zone.proofs.Tests.{never, both, or-true}
 use Rattle.card.specs.declared.records.Record.{Record}
 use Rattle.card.specs.declared.records.Found.{Found}
 use Rattle.card.specs.declared.records.Found.the-variants.{At, Nowhere}
@@ -24,9 +25,15 @@ use Rattle.card.proofs.Found.{found-nowhere}
 use Rattle.frame.specs.Frame.{addressIn, bodyIn, shaped, checksumRight, bodyRead}
 use Rattle.roads.specs.Acknowledgements.{textReply, frameReply}
 use Rattle.roads.specs.Calls.{Answered, tooSmall, parsedRows, answerText, holder, resultAt, inFrameReply, answerFrame}
-use Rattle.session.specs.Sessions.{Quiet, Call, quiet, answerTo, after, run, Throughout}
-use Rattle.session.specs.Changes.{Becomes, stays, written, was-reported, was-removed, was-added, was-chosen, was-rebooked, was-mended, Removes, removed, merged-away, merged, Adds, NotAdded, NotGiven}
+use Rattle.roads.proofs.Local.{text-touches}
+use Rattle.texts.specs.Texts.{linesOf}
+use Rattle.recipes.specs.Recipes.{Sending, sendings, inTurn, isDone}
+use Rattle.recipes.proofs.Ended.{load-done}
+use Rattle.session.specs.Sessions.{load, Quiet, Call, inRoom, quiet, answerTo, after, Done, run, Throughout}
+use Rattle.session.specs.Changes.{Becomes, stays, written, was-reported, was-removed, was-added, was-chosen, was-rebooked, was-mended, was-loaded, Removes, removed, merged-away, merged, Adds, NotAdded, NotGiven}
 use Rattle.session.specs.Demands.{StaysEmpty, StaysRemoved, MeetsSilence, refusedSilently, PointsAt, applies, reports, removes, chooses, asks, books, ships, merges, merges-into, RemovedStaysGone}
+use Rattle.session.proofs.Done.{line-is-done}
+use Rattle.session.proofs.InTurn.{in-turn-kept}
 use Rattle.session.proofs.Changes.{becomes, sets}
 use Rattle.session.proofs.Demand3.{stays-sound}
 
@@ -48,6 +55,7 @@ one-kept r n call e u = by-change (becomes r call n)
     by-change (was-chosen source millivolts w p s) = absent-here e p
     by-change (was-rebooked kilograms w p s) = absent-here e p
     by-change (was-mended window w p s) = absent-here e p
+    by-change (was-loaded writes w p s) = absent-here e p
 
 pub stays-empty : StaysEmpty
 stays-empty r n [] e u = e
@@ -118,6 +126,7 @@ one-unheld a r call h u m = by-change (becomes r call m)
     by-change (was-chosen source millivolts w p s) = same-holder a (s .head) ∙ h m
     by-change (was-rebooked kilograms w p s) = same-holder a (s .head) ∙ h m
     by-change (was-mended window w p s) = same-holder a (s .head) ∙ h m
+    by-change (was-loaded writes w p s) = in-turn-kept (holds a) (λ z f l k. same-holder a (k .head)) writes (zoneAt r m) _ s ∙ h m
     by-change (was-added b range w p s) = rw s (by-address (eqb b a) refl)
       where
         by-address : (t : Bool) → eqb b a ≡ t → t ≡ false
@@ -172,6 +181,20 @@ call-three r n call s e (ships kilograms) = rw (s, absent r n e)
 call-three r n call s e (merges b) = rw (s, absent r n e)
 call-three r n call s e (merges-into a) = rw (s, absent r n e) (rw (or-true (noZone r a)))
 
+-- a line to an absent zone is not done, and so no recipe that has one
+lines-refused : (r : Record) (lines : List Sending) (room : List ℕ) (n : ℕ) → zoneAt r n ≡ emptyZone → some (λ line. eqb (line .zone) n) lines ≡ true → every isDone (inTurn r lines room) ≡ true → ⊥
+unfolding inTurn
+lines-refused r [] room n e h d = never h
+lines-refused r (line ∷ lines) room n e h d =
+    let one = answerText r (line .zone) (line .command) (take 32 room) in
+    let parts = both (isZero (one .said .number)) (every isDone (inTurn (one .after) lines (drop 32 room))) d in
+    let w = line-is-done r (line .zone) (line .command) (take 32 room) (eqb-true (one .said .number) 0 (parts .0)) in
+    let apart : line .zone ≡ n → ⊥ = λ q. absent-here (ap (zoneAt r) q ∙ e) (w .present .present) in
+    lines-refused (one .after) lines (drop 32 room) n (text-touches r (line .zone) (line .command) (take 32 room) n (λ q. apart (sym q)) ∙ e) (rw (ne-eqb (line .zone) n apart) at h) (parts .1)
+
+recipe-refused : (r : Record) (recipe room : List ℕ) (n : ℕ) → zoneAt r n ≡ emptyZone → some (λ line. eqb (line .zone) n) (sendings (linesOf recipe)) ≡ true → Done r (inRoom (load recipe) room) → ⊥
+recipe-refused r recipe room n e h d = lines-refused r (sendings (linesOf recipe)) room n e h (load-done r recipe room d .1)
+
 pub stays-gone : RemovedStaysGone
 stays-gone r n removal calls room w h =
     let gone = after r removal in
@@ -181,5 +204,6 @@ stays-gone r n removal calls room w h =
       by-frame = λ u bytes k a.
           let nobody = found-nowhere (run gone calls) (addressIn bytes) .1 (rw a (stays-unheld (zoneAt r n .address) gone calls (removed-unheld r n removal w) u)) in
           unheld-five (run gone calls) bytes room nobody h s k;
+      by-recipe = λ u recipe lent h d. recipe-refused (run gone calls) recipe lent n (stays-removed r n removal calls w u) h d;
       by-call = λ u call p. call-three (run gone calls) n call s (stays-removed r n removal calls w u) p;
     }

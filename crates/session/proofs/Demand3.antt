@@ -6,7 +6,7 @@ use mathlib.Core.Bool.{Bool, true, false, _&&_}
 use mathlib.Core.List.{List, [], _∷_}
 use native.Mathlib.Omega.{arith}
 use native.Mathlib.Nat.{min-le-left, min-le-right, le-min}
-use lib.ListN.{length}
+use lib.ListN.{length, take, drop}
 use lib.Dec.{ltb}
 use borrow.Author.Tests.{lt-ltb, ltb-true, ltb-false, not-false}
 use Rattle.zone.specs.declared.figures.Command.{Command}
@@ -32,7 +32,10 @@ use Rattle.frame.proofs.Round.{frame-only}
 use Rattle.roads.specs.Calls.{Answered, textResult, answerText, frameResult, answerFrame}
 use Rattle.roads.proofs.Applied.{text-applies, frame-applies}
 use Rattle.roads.proofs.Replies.{in-range-both}
-use Rattle.session.specs.Sessions.{text, frame, composeLine, composeFrame, add, remove, report, apply, chooseSource, setpointInUse, book, ship, merge, repair, Call, inRoom, quiet, answerTo, after, Done, runBy}
+use Rattle.texts.specs.Texts.{linesOf}
+use Rattle.recipes.specs.Recipes.{Sending, sendings, inTurn, leftBy, Loading, loadOf}
+use Rattle.recipes.proofs.Ended.{load-done}
+use Rattle.session.specs.Sessions.{text, frame, composeLine, composeFrame, load, add, remove, report, apply, chooseSource, setpointInUse, book, ship, merge, repair, Call, inRoom, quiet, answerTo, after, Done, runBy}
 use Rattle.session.specs.Demands.{bothCarry, bothBound, BothBounds, BothCarried, Present, Same, SameByBoth, StaysSound, OnlyLines, OnlyFrames, OtherRoad, by-frame, by-text, Rerouted, over, as-before, other-road, SameEnd}
 use Rattle.session.proofs.Answering.{record-kept, by-done}
 use Rattle.session.proofs.Done.{Applied, line-is-done, frame-is-done}
@@ -151,11 +154,23 @@ frame-sound r bytes room s e = let d = frame-is-done r bytes room e in applied-s
 kept-or-done : (r : Record) (call : Call) → sound r ≡ true → (Done r call → sound (after r call) ≡ true) → sound (after r call) ≡ true
 kept-or-done r call s d = by-done r call d (λ u. rw (record-kept r call u) s)
 
+-- the lines of a recipe, one after the other
+lines-sound : (r : Record) (lines : List Sending) (room : List ℕ) → sound r ≡ true → sound (leftBy r (inTurn r lines room)) ≡ true
+unfolding inTurn
+lines-sound r [] room s = s
+lines-sound r (line ∷ lines) room s =
+    let call = inRoom (text (line .zone) (line .command)) (take 32 room) in
+    lines-sound (after r call) lines (drop 32 room) (kept-or-done r call s (text-sound r (line .zone) (line .command) (take 32 room) s))
+
+load-sound : (r : Record) (recipe room : List ℕ) → sound r ≡ true → loadOf r recipe room .answered .said .number ≡ 0 → sound (loadOf r recipe room .answered .after) ≡ true
+load-sound r recipe room s d = ap (λ (o : Loading). sound (o .answered .after)) (load-done r recipe room d .2) ∙ lines-sound r (sendings (linesOf recipe)) room s
+
 one-sound : (r : Record) (call : Call) → sound r ≡ true → sound (after r call) ≡ true
 one-sound r (inRoom (text n line) room) s = kept-or-done r (inRoom (text n line) room) s (text-sound r n line room s)
 one-sound r (inRoom (frame bytes) room) s = kept-or-done r (inRoom (frame bytes) room) s (frame-sound r bytes room s)
 one-sound r (inRoom (composeLine c) room) s = s
 one-sound r (inRoom (composeFrame a c) room) s = s
+one-sound r (inRoom (load recipe) room) s = kept-or-done r (inRoom (load recipe) room) s (load-sound r recipe room s)
 one-sound r (quiet (add n a range)) s = add-keeps r n a range .stays s
 one-sound r (quiet (remove n)) s = remove-keeps r n .stays s
 one-sound r (quiet (report n state actual)) s = report-keeps r n state actual .stays s

@@ -1,11 +1,13 @@
 pub mod Answering
 pub mod Done
+pub mod InTurn
 pub mod Changes
 pub mod Demand3
 pub mod Demand1
 pub mod Demand2
 pub mod Lasting
 pub mod Useless
+pub mod Recipes
 pub mod Unsound
 pub mod Struck
 pub mod Sources

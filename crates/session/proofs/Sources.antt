@@ -28,9 +28,10 @@ use Rattle.card.proofs.Found.{present-below}
 use Rattle.card.proofs.Sets.{write-at-zone, choose-source-at-zone, choose-source-sets, add-sets, read-tells, setpoint-in-use-tells}
 use Rattle.roads.specs.Calls.{Answered, said}
 use Rattle.session.specs.Sessions.{setpointInUse, Call, quiet, answerTo, after}
-use Rattle.session.specs.Changes.{Writes, by-apply, by-line, by-frame, Becomes, stays, written, was-reported, was-removed, was-added, was-chosen, was-rebooked, was-mended}
+use Rattle.session.specs.Changes.{Writes, by-apply, by-line, by-frame, Becomes, stays, written, was-reported, was-removed, was-added, was-chosen, was-rebooked, was-mended, was-loaded}
 use Rattle.session.specs.Demands.{Present, later}
 use Rattle.session.specs.Sources.{InUse, AtVoltage, AsLsolw, SetpointInUse, NeverFalls, ChoicesAreJudged, EveryChoiceCounts, SolwCounts, NotRechosen, StaysChosen, StartsAnew}
+use Rattle.session.proofs.InTurn.{in-turn-kept}
 use Rattle.session.proofs.Changes.{becomes, sets}
 use Rattle.session.proofs.Lasting.{Kept, kept-throughout}
 use Rattle.session.proofs.Demand1.{stays-removed}
@@ -176,6 +177,10 @@ one-kept n r call p u = by-change (becomes r call n)
     by-change (was-chosen chosen millivolts w q s) = absurd (u .not-chosen chosen millivolts w)
     by-change (was-rebooked kilograms w q s) = record { present = s .head .present ∙ p; same = s .origin }
     by-change (was-mended window w q s) = record { present = s .head .present ∙ p; same = s .origin }
+    by-change (was-loaded writes w q s) = record {
+      present = in-turn-kept (λ z. z .present) (λ z f l k. k .head .present) writes (zoneAt r n) _ s ∙ p;
+      same = in-turn-kept (λ z. z .origin) (λ z f l k. k .origin) writes (zoneAt r n) _ s;
+    }
 
 pub stays-chosen : StaysChosen
 stays-chosen r n calls p u = kept-throughout (λ z. z .origin) n (NotRechosen n) (one-kept n) r calls p u

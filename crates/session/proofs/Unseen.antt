@@ -2,8 +2,8 @@
 use Prim.Native.Nat.{ℕ, _+_}
 use mathlib.Core.Path.{_≡_, refl, sym, ap, _∙_}
 use mathlib.Core.Bool.{Bool, true, false, cond, not, _&&_, _||_}
-use mathlib.Core.List.{List, [], _∷_, map}
-use lib.ListN.{set, length-map, List·getD-map}
+use mathlib.Core.List.{List, [], _∷_, map, _++_}
+use lib.ListN.{set, length-map, List·getD-map, take, drop}
 use lib.Seq.{ext-getD, map-set-same}
 use lib.Dec.{leb, eqb}
 use Rattle.zone.specs.declared.figures.Group.{Group}
@@ -13,7 +13,7 @@ use Rattle.zone.specs.declared.figures.Command.{Command}
 use Rattle.zone.specs.declared.figures.Command.the-variants.{Read, Write}
 use Rattle.zone.specs.declared.sources.Source.{Source}
 use Rattle.zone.specs.declared.zones.Zone.{Zone}
-use Rattle.zone.specs.Lists.{isZero}
+use Rattle.zone.specs.Lists.{isZero, every}
 use Rattle.zone.specs.Sources.{newOrigin}
 use Rattle.zone.specs.Zones.{emptyZone, holds, figuresOf, addressInRange, rangeKnown, bookingInRange, withFigures, withOrigin, withKilograms}
 use Rattle.zone.proofs.Tests.{never}
@@ -32,10 +32,12 @@ use Rattle.wire.specs.declared.Parsed.{Parsed}
 use Rattle.wire.specs.declared.Parsed.the-variants.{Known, Unknown, Syntax}
 use Rattle.line.specs.Line.{lineRead}
 use Rattle.frame.specs.Frame.{addressIn, bodyIn, bodyRead}
-use Rattle.roads.specs.Calls.{said, parsedAt, textResult, answerText, textPlace, zoneFound, holder, frameResult, answerFrame}
+use Rattle.roads.specs.Calls.{Said, Answered, said, parsedAt, textResult, answerText, textPlace, zoneFound, holder, frameResult, answerFrame}
 use Rattle.roads.specs.Rules.{JudgesAlike}
 use Rattle.roads.proofs.Local.{text-rows, frame-rows, text-local, frame-local}
-use Rattle.session.specs.Sessions.{text, frame, composeLine, composeFrame, Quiet, add, remove, report, apply, chooseSource, setpointInUse, book, ship, merge, repair, Call, inRoom, quiet, answerTo, after, saidTo, resultOf, heardBy, SameWithout}
+use Rattle.texts.specs.Texts.{linesOf}
+use Rattle.recipes.specs.Recipes.{Sending, sendings, Sent, inTurn, isDone, leftBy, roomBy, ofRefused, refusedWith, triedWith, formRows, loadOf}
+use Rattle.session.specs.Sessions.{text, frame, composeLine, composeFrame, load, Quiet, add, remove, report, apply, chooseSource, setpointInUse, book, ship, merge, repair, Call, inRoom, quiet, answerTo, after, saidTo, resultOf, heardBy, SameWithout}
 use Rattle.session.specs.Sources.{quietOfSource, ofSource, struck, Alike, SourcesAreUnseen}
 use Rattle.session.proofs.Demand3.{stays-sound}
 use Rattle.session.proofs.Struck.{may-be-struck, strike-again}
@@ -163,10 +165,103 @@ module _ {r r′ : Record} (a : Alike r r′) where
       let n = zoneFound (holder r bytes) in
       frame-local r r′ bytes room (same-sound a) (λ p s. (same-found a (addressIn bytes), judges-alike n)) (λ d g q. same-figures n g)
 
+-- ---- a recipe, by its lines
+
+-- a line is answered the same, and leaves records that are alike
+text-alike : (r r′ : Record) → Alike r r′ → (n : ℕ) (line room : List ℕ)
+    → (answerText r n line room .said ≡ answerText r′ n line room .said) × Alike (answerText r n line room .after) (answerText r′ n line room .after)
+unfolding answerText
+text-alike r r′ a n line room =
+    let call = inRoom (text n line) room in (
+      text-answered a n line room .0,
+      record {
+        zones = zones-alike (after r call) (after r′ call) (text-seen a n line room .left);
+        sound-one = stays-sound r (call ∷ []) (a .sound-one);
+        sound-other = stays-sound r′ (call ∷ []) (a .sound-other);
+      },
+    )
+
+-- lines sent in turn, to one record and to the other
+record LinesSeen (r r′ : Record) (room : List ℕ) (all all′ : List Sent) : Type 0 where
+  done : every isDone all ≡ every isDone all′
+  number : ofRefused (λ one. one .answered .said .number) 0 all ≡ ofRefused (λ one. one .answered .said .number) 0 all′
+  left-room : roomBy all room ≡ roomBy all′ room
+  left : Alike (leftBy r all) (leftBy r′ all′)
+
+lines-seen : (r r′ : Record) → Alike r r′ → (lines : List Sending) (room : List ℕ) → LinesSeen r r′ room (inTurn r lines room) (inTurn r′ lines room)
+unfolding inTurn
+lines-seen r r′ a [] room = record { done = refl; number = refl; left-room = refl; left = a }
+lines-seen r r′ a (line ∷ lines) room =
+    let one = text-alike r r′ a (line .zone) (line .command) (take 32 room) in
+    let e = one .0 in
+    let rest = lines-seen (answerText r (line .zone) (line .command) (take 32 room) .after) (answerText r′ (line .zone) (line .command) (take 32 room) .after) (one .1) lines (drop 32 room) in
+    record {
+      done = λ i. isZero (e i .number) && rest .done i;
+      number = λ i. cond (isZero (e i .number)) (rest .number i) (e i .number);
+      left-room = λ i. e i .room ++ rest .left-room i;
+      left = rest .left;
+    }
+
+-- what is said of lines that were tried, by whether each is done
+abbrev saidBy : Bool → ℕ → List ℕ → List ℕ → Said
+saidBy done number left room = cond done (record { number = 0; values = []; length = 0; room = left }) (said number [] [] room)
+
+tried-said : (r : Record) (room : List ℕ) (all : List Sent) → triedWith r room all .answered .said ≡ saidBy (every isDone all) (ofRefused (λ one. one .answered .said .number) 0 all) (roomBy all room) room
+tried-said r room all = by-done (every isDone all) refl
+  where
+    by-done : (t : Bool) → every isDone all ≡ t → triedWith r room all .answered .said ≡ saidBy (every isDone all) (ofRefused (λ one. one .answered .said .number) 0 all) (roomBy all room) room
+    by-done true e = rw e
+    by-done false e = rw e
+
+tried-left : (r : Record) (room : List ℕ) (all : List Sent) → triedWith r room all .answered .after ≡ cond (every isDone all) (leftBy r all) r
+tried-left r room all = by-done (every isDone all) refl
+  where
+    by-done : (t : Bool) → every isDone all ≡ t → triedWith r room all .answered .after ≡ cond (every isDone all) (leftBy r all) r
+    by-done true e = rw e
+    by-done false e = rw e
+
+module _ {r r′ : Record} (a : Alike r r′) where
+  tried-seen : (lines : List Sending) (room : List ℕ)
+      → (triedWith r room (inTurn r lines room) .answered .said ≡ triedWith r′ room (inTurn r′ lines room) .answered .said)
+      × (mapped plain (triedWith r room (inTurn r lines room) .answered .after) ≡ mapped plain (triedWith r′ room (inTurn r′ lines room) .answered .after))
+  tried-seen lines room =
+      let k = lines-seen r r′ a lines room in
+      let all = inTurn r lines room in
+      let all′ = inTurn r′ lines room in (
+        tried-said r room all ∙ (λ i. saidBy (k .done i) (k .number i) (k .left-room i) room) ∙ sym (tried-said r′ room all′),
+        ap (mapped plain) (tried-left r room all)
+            ∙ by-done (every isDone all′) (leftBy r all) (leftBy r′ all′) (k .left) (k .done)
+            ∙ ap (mapped plain) (sym (tried-left r′ room all′)),
+      )
+    where
+      by-done : (t : Bool) {u : Bool} (l l′ : Record) → Alike l l′ → u ≡ t → mapped plain (cond u l r) ≡ mapped plain (cond t l′ r′)
+      by-done true l l′ b e = rw e (alike-mapped l l′ b)
+      by-done false l l′ b e = rw e (alike-mapped r r′ a)
+
+  -- what a recipe comes to, by whether its form is right and by the number that is given where it is not
+  abbrev formed : List ℕ → List ℕ → Record → Bool → ℕ → Answered
+  formed recipe room x t n = cond t (triedWith x room (inTurn x (sendings (linesOf recipe)) room)) (refusedWith x room n 0 0) .answered
+
+  recipe-seen : (recipe room : List ℕ)
+      → (loadOf r recipe room .answered .said ≡ loadOf r′ recipe room .answered .said) × (mapped plain (loadOf r recipe room .answered .after) ≡ mapped plain (loadOf r′ recipe room .answered .after))
+  unfolding loadOf
+  recipe-seen recipe room = rw (same-sound a) (by-form (isZero n) (tried-seen (sendings (linesOf recipe)) room))
+    where
+      n : ℕ
+      n = first (formRows r′ (linesOf recipe) room)
+
+      by-form : (t : Bool) → (formed recipe room r true n .said ≡ formed recipe room r′ true n .said) × (mapped plain (formed recipe room r true n .after) ≡ mapped plain (formed recipe room r′ true n .after))
+          → (formed recipe room r t n .said ≡ formed recipe room r′ t n .said) × (mapped plain (formed recipe room r t n .after) ≡ mapped plain (formed recipe room r′ t n .after))
+      by-form true k = k
+      by-form false k = (refl, alike-mapped r r′ a)
+
+-- ---- calls without a road, and all of them
+
+module _ {r r′ : Record} (a : Alike r r′) where
   -- a merging looks at the kilograms of two zones, and sets these and no source
   merge-seen : (n m : ℕ) → Seen (resultOf r (merge n m)) (resultOf r′ (merge n m))
   unfolding mergeOf
-  merge-seen n m = settled-seen (mergeRows r n m) (mergeRows r′ n m) [] [] (merged r n m) (merged r′ n m) rows refl (joined r ∙ both ∙ sym (joined r′))
+  merge-seen n m = settled-seen a (mergeRows r n m) (mergeRows r′ n m) [] [] (merged r n m) (merged r′ n m) rows refl (joined r ∙ both ∙ sym (joined r′))
     where
       kilograms : together r n m ≡ together r′ n m
       kilograms = λ i. a .zones m i .kilograms + a .zones n i .kilograms
@@ -195,7 +290,7 @@ module _ {r r′ : Record} (a : Alike r r′) where
   quiet-seen : (call : Quiet) → quietOfSource call ≡ false → Seen (resultOf r call) (resultOf r′ call)
   unfolding addOf removeOf reportOf applyOf bookOf shipOf
   quiet-seen (add n address range) e =
-      stored-seen n (λ z. addAt z address range (heldIn (r .zones) address)) (record { rows = λ z. refl; values = λ z. refl; left = λ z. refl }) _ _
+      stored-seen a n (λ z. addAt z address range (heldIn (r .zones) address)) (record { rows = λ z. refl; values = λ z. refl; left = λ z. refl }) _ _
       (λ i.
       (not (same-sound a i) gives 2)
       ∷ (leb 16 n gives 3)
@@ -203,23 +298,24 @@ module _ {r r′ : Record} (a : Alike r r′) where
       ∷ (not (addressInRange address && rangeKnown range) gives 9)
       ∷ (same-held a address i gives 11)
       ∷ [])
-  quiet-seen (remove n) e = at-zone-seen n removeAt (record { rows = λ z. refl; values = λ z. refl; left = λ z. refl })
-  quiet-seen (report n state actual) e = at-zone-seen n (λ z. reportAt z state actual) (record { rows = λ z. refl; values = λ z. refl; left = λ z. refl })
-  quiet-seen (apply n c) e = at-zone-seen n (λ z. commandAt z c) (command-blind c)
+  quiet-seen (remove n) e = at-zone-seen a n removeAt (record { rows = λ z. refl; values = λ z. refl; left = λ z. refl })
+  quiet-seen (report n state actual) e = at-zone-seen a n (λ z. reportAt z state actual) (record { rows = λ z. refl; values = λ z. refl; left = λ z. refl })
+  quiet-seen (apply n c) e = at-zone-seen a n (λ z. commandAt z c) (command-blind c)
   quiet-seen (chooseSource n source millivolts) e = never (sym e)
   quiet-seen (setpointInUse n) e = never (sym e)
-  quiet-seen (book n kg) e = at-zone-seen n (λ z. bookAt z kg) (record { rows = λ z. refl; values = λ z. refl; left = λ z. refl })
-  quiet-seen (ship n kg) e = at-zone-seen n (λ z. shipAt z kg) (record { rows = λ z. refl; values = λ z. refl; left = λ z. refl })
+  quiet-seen (book n kg) e = at-zone-seen a n (λ z. bookAt z kg) (record { rows = λ z. refl; values = λ z. refl; left = λ z. refl })
+  quiet-seen (ship n kg) e = at-zone-seen a n (λ z. shipAt z kg) (record { rows = λ z. refl; values = λ z. refl; left = λ z. refl })
   quiet-seen (merge n m) e = merge-seen n m
   quiet-seen repair e = repair-seen
 
   -- what is answered is the same, and what is left of the records
   answer-seen : (call : Call) → ofSource call ≡ false → (answerTo r call .said ≡ answerTo r′ call .said) × (mapped plain (after r call) ≡ mapped plain (after r′ call))
   unfolding answerText answerFrame
-  answer-seen (inRoom (text n line) room) e = (text-answered n line room .0, text-seen n line room .left)
-  answer-seen (inRoom (frame bytes) room) e = (frame-answered bytes room, frame-seen bytes room .left)
+  answer-seen (inRoom (text n line) room) e = (text-answered a n line room .0, text-seen a n line room .left)
+  answer-seen (inRoom (frame bytes) room) e = (frame-answered a bytes room, frame-seen a bytes room .left)
   answer-seen (inRoom (composeLine c) room) e = (refl, alike-mapped r r′ a)
   answer-seen (inRoom (composeFrame address c) room) e = (refl, alike-mapped r r′ a)
+  answer-seen (inRoom (load recipe) room) e = recipe-seen a recipe room
   answer-seen (quiet call) e =
       let k = quiet-seen call e in
       (λ i. said (k .number i) (k .values i) [] [], k .left)

@@ -2,6 +2,7 @@
 use mathlib.Core.Path.{_≡_, refl, sym, ap, _∙_}
 use mathlib.Core.Bool.{true, false}
 use mathlib.Core.List.{[], _∷_}
+use native.Mathlib.Omega.{arith}
 use lib.ListN.{length}
 use borrow.Author.Tests.{le-ltb, not-false}
 use Rattle.zone.specs.declared.figures.Figures.the-variants.{AhueWindow}
@@ -15,7 +16,11 @@ use Rattle.card.proofs.Sets.{setpoint-in-use-alters-nothing}
 use Rattle.card.proofs.Repairs.{repair-refused, not-otherwise, shut-unsound, repair-mends}
 use Rattle.roads.specs.Acknowledgements.{textReply, frameReply}
 use Rattle.roads.specs.Calls.{said, answerText, answerFrame}
-use Rattle.session.specs.Sessions.{text, frame, composeLine, composeFrame, add, remove, report, apply, chooseSource, setpointInUse, book, ship, merge, repair, Call, inRoom, quiet, answerTo, after, Done}
+use Rattle.recipes.specs.Recipes.{Loading}
+use Rattle.recipes.proofs.Cases.{not-sound}
+use Rattle.recipes.proofs.Told.{fine}
+use Rattle.recipes.proofs.Ended.{load-done}
+use Rattle.session.specs.Sessions.{text, frame, composeLine, composeFrame, load, add, remove, report, apply, chooseSource, setpointInUse, book, ship, merge, repair, Call, inRoom, quiet, answerTo, after, Done}
 use Rattle.session.specs.Demands.{lent, TestsSoundness, writeNumber, ShutGivesNine, ShutGivesTwo, RepairHelps, UnsoundStays, FaultyStays}
 use Rattle.session.proofs.Answering.{record-kept, by-done}
 use Rattle.session.proofs.Done.{line-is-done, frame-is-done}
@@ -23,10 +28,11 @@ use Rattle.session.proofs.Demand2.{judged}
 
 unsound-two : (r : Record) (call : Call) → sound r ≡ false → TestsSoundness call → answerTo r call ≡ record { said = said 2 [] [] (lent call); after = r }
 unfolding answerText textReply answerFrame frameReply addOf removeOf reportOf applyOf chooseSourceOf setpointInUseOf bookOf shipOf mergeOf
-unsound-two r (inRoom (text n line) room) s t = rw (le-ltb (length room) 32 (t .served refl), s)
-unsound-two r (inRoom (frame bytes) room) s t = rw (le-ltb (length room) 32 (t .served refl), s)
+unsound-two r (inRoom (text n line) room) s t = rw (le-ltb (length room) 32 (t .served), s)
+unsound-two r (inRoom (frame bytes) room) s t = rw (le-ltb (length room) 32 (t .served), s)
 unsound-two r (inRoom (composeLine c) room) s t = never (t .two)
 unsound-two r (inRoom (composeFrame a c) room) s t = never (t .two)
+unsound-two r (inRoom (load recipe) room) s t = ap (λ (o : Loading). o .answered) (not-sound r recipe room (omega (arith, t .served)) s)
 unsound-two r (quiet (add n address range)) s t = rw s
 unsound-two r (quiet (remove n)) s t = rw s
 unsound-two r (quiet (report n state actual)) s t = rw s
@@ -66,6 +72,7 @@ one-stays r (inRoom (text n line) room) s P h u = kept-if r (inRoom (text n line
 one-stays r (inRoom (frame bytes) room) s P h u = kept-if r (inRoom (frame bytes) room) s P h (λ d. frame-is-done r bytes room d .present .sound-record)
 one-stays r (inRoom (composeLine c) room) s P h u = h
 one-stays r (inRoom (composeFrame a c) room) s P h u = h
+one-stays r (inRoom (load recipe) room) s P h u = kept-if r (inRoom (load recipe) room) s P h (λ d. fine r recipe room (load-done r recipe room d .0) .is-sound)
 one-stays r (quiet (add n a range)) s P h u = kept-if r (quiet (add n a range)) s P h (λ d. not-false (sound r) (add-exactly r n a range .done .0 d 0))
 one-stays r (quiet (remove n)) s P h u = kept-if r (quiet (remove n)) s P h (λ d. not-false (sound r) (remove-exactly r n .done .0 d 0))
 one-stays r (quiet (report n state actual)) s P h u = kept-if r (quiet (report n state actual)) s P h (λ d. not-false (sound r) (report-exactly r n state actual .done .0 d 0))

@@ -28,9 +28,10 @@ use Rattle.frame.specs.Frame.{frameRoad, frameOf, groupIndexed}
 use Rattle.frame.proofs.Requests.{index-again}
 use Rattle.roads.specs.Calls.{answerText, answerFrame}
 use Rattle.session.specs.Sessions.{Call, after, run}
-use Rattle.session.specs.Changes.{Becomes, stays, written, was-reported, was-removed, was-added, was-chosen, was-rebooked, was-mended, NotRewritten}
+use Rattle.session.specs.Changes.{Becomes, stays, written, was-reported, was-removed, was-added, was-chosen, was-rebooked, was-mended, was-loaded, NotRewritten}
 use Rattle.session.specs.Demands.{Present, SetsOnly, EveryWriteIsStored, StaysStored}
 use Rattle.session.proofs.Done.{Applied, line-done, frame-done}
+use Rattle.session.proofs.InTurn.{in-turn-kept, in-turn-others}
 use Rattle.session.proofs.Changes.{becomes}
 use Rattle.session.proofs.Lasting.{Kept, kept-throughout}
 
@@ -81,6 +82,10 @@ one-kept n group r call p u = by-change (becomes r call n)
     by-change (was-chosen source millivolts w q s) = record { present = s .head .present ∙ p; same = s .groups group }
     by-change (was-rebooked kilograms w q s) = record { present = s .head .present ∙ p; same = s .groups group }
     by-change (was-mended window w q s) = same-group group Ahue (λ e. absurd (u .not-mended e window w)) (λ v. record { present = s .head .present ∙ p; same = s .otherGroups group v })
+    by-change (was-loaded writes w q s) = record {
+      present = in-turn-kept (λ z. z .present) (λ z f l k. k .head .present) writes (zoneAt r n) _ s ∙ p;
+      same = in-turn-others group writes (zoneAt r n) _ (u .not-loaded writes w) s;
+    }
 
 pub stays-stored : StaysStored
 stays-stored r n group calls p u = kept-throughout (λ z. figuresOf z group) n (NotRewritten n group) (one-kept n group) r calls p u

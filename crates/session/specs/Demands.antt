@@ -1,6 +1,6 @@
 -- The three demands, in the buyer's order and words, and at the end what document 02's Req 06 says of sessions. Above each statement stands where it is proved.
 -- "P → ⊥" says that P does not hold, "P ⊎ Q" that one of the two does, "P × Q" that both do.
-use Prim.Native.Nat.{ℕ, _≤_, _<_, min}
+use Prim.Native.Nat.{ℕ, _*_, _≤_, _<_, min}
 use mathlib.Core.Path.{_≡_}
 use mathlib.Core.Logic.{_⊎_}
 use mathlib.Core.Bool.{Bool, true, false, cond, _&&_}
@@ -34,17 +34,20 @@ use Rattle.roads.specs.declared.answering.Acknowledgement.{Acknowledgement}
 use Rattle.roads.specs.declared.answering.Acknowledgement.the-variants.{Okay}
 use Rattle.roads.specs.Acknowledgements.{textOf, functionOf, textRefusal, frameRefusal}
 use Rattle.roads.specs.Calls.{Said, said, Answered, replyIn, textOrder, textRows, answerText, frameOrder, frameRows, answerFrame, composeOrder, composeRows, composedLine, composedFrame}
-use Rattle.session.specs.Sessions.{Speaking, text, frame, composeLine, composeFrame, Quiet, add, remove, report, apply, chooseSource, setpointInUse, book, ship, merge, repair, Call, inRoom, quiet, answerTo, after, Done, run, Throughout}
+use Rattle.texts.specs.Texts.{linesOf}
+use Rattle.recipes.specs.Recipes.{sendings, loadOrder, loadRows}
+use Rattle.session.specs.Sessions.{Speaking, text, frame, composeLine, composeFrame, load, Quiet, add, remove, report, apply, chooseSource, setpointInUse, book, ship, merge, repair, Call, inRoom, quiet, answerTo, after, Done, run, Throughout}
 use Rattle.session.specs.Changes.{Removes, NotAdded, NotGiven, NotRewritten}
 
 -- ---- 1. "Any bytes, any zone number and any record may be handed to the card."
 
--- the order of a call's refusals, as document 01 prints it, of removing with 15 behind it (Req 07); of apply, as it follows from that of a line; of the calls of document 02, as its requests have it, of the setpoint in use its beginning, since no figure is handed in
+-- the order of a call's refusals, as document 01 prints it, of removing with 15 behind it (Req 07); of apply, as it follows from that of a line; of the calls of document 02, as its requests have it, of the setpoint in use its beginning, since no figure is handed in, and of a recipe with the numbers that a line may get behind its own
 abbrev pub spokenOrder : Speaking → List ℕ
 spokenOrder (text zone line) = textOrder
 spokenOrder (frame bytes) = frameOrder
 spokenOrder (composeLine command) = composeOrder
 spokenOrder (composeFrame address command) = composeOrder
+spokenOrder (load recipe) = loadOrder
 
 abbrev pub quietOrder : Quiet → List ℕ
 quietOrder (add zone address range) = addOrder
@@ -68,6 +71,7 @@ spokenRefusals r (text zone line) room = textRows r zone line room
 spokenRefusals r (frame bytes) room = frameRows r bytes room
 spokenRefusals r (composeLine command) room = composeRows (carriesCommand textRoad command) room
 spokenRefusals r (composeFrame address command) room = composeRows (addressInRange address && carriesCommand frameRoad command) room
+spokenRefusals r (load recipe) room = loadRows r recipe room
 
 abbrev pub quietRefusals : Record → Quiet → List Row
 quietRefusals r (add zone address range) = addRows r zone address range
@@ -99,6 +103,7 @@ fixedIn (text zone line) number = textRefusal number
 fixedIn (frame bytes) number = frameRefusal (addressIn bytes) number
 fixedIn (composeLine command) number = []
 fixedIn (composeFrame address command) number = []
+fixedIn (load recipe) number = []
 
 abbrev pub fixed : Call → ℕ → List ℕ
 fixed (inRoom call room) number = fixedIn call number
@@ -181,6 +186,9 @@ pub record Gone (r : Record) (n : ℕ) (removal : Call) (calls : List Call) (roo
   pub by-line : Throughout (NotAdded n) (after r removal) calls → (line : List ℕ) → answerText (later r removal calls) n line room ≡ refusedSilently 3 (later r removal calls) room
   pub by-frame : Throughout (NotGiven (zoneAt r n .address)) (after r removal) calls
       → (bytes : List ℕ) → shaped bytes ≡ true → addressIn bytes ≡ zoneAt r n .address → answerFrame (later r removal calls) bytes room ≡ refusedSilently 5 (later r removal calls) room
+  -- a recipe with a line to it is refused, and so none of its lines is stored (Req 01): with 3 where the lines before that one are done
+  pub by-recipe : Throughout (NotAdded n) (after r removal) calls → (recipe lent : List ℕ) → some (λ line. eqb (line .zone) n) (sendings (linesOf recipe)) ≡ true
+      → Done (later r removal calls) (inRoom (load recipe) lent) → ⊥
   -- applying a command, reporting, removing once more, choosing the source, asking for the setpoint in use, booking, shipping, merging it or into it
   pub by-call : Throughout (NotAdded n) (after r removal) calls → (call : Quiet) → PointsAt n call → answerTo (later r removal calls) (quiet call) ≡ refusedSilently 3 (later r removal calls) []
 
@@ -378,11 +386,20 @@ pub record GivesNine (r : Record) (n : ℕ) (window : WindowFigures) (room : Lis
 abbrev pub ShutGivesNine : Type 0
 ShutGivesNine = (r : Record) (n : ℕ) (window : WindowFigures) (room : List ℕ) → window .end ≤ window .begin → Present r n → 32 ≤ length room → GivesNine r n window room
 
--- a call that tests soundness, past its room: 2 is in its order, it is not the repair itself, and it is lent the room of 32 bytes, if it may be refused for its room
+-- the room that a call may be refused for, with 1: 32 bytes, of a recipe for each line
+abbrev pub roomOf : Call → ℕ
+roomOf (inRoom (text zone line) room) = 32
+roomOf (inRoom (frame bytes) room) = 32
+roomOf (inRoom (composeLine command) room) = 32
+roomOf (inRoom (composeFrame address command) room) = 32
+roomOf (inRoom (load recipe) room) = 32 * length (linesOf recipe)
+roomOf (quiet call) = 0
+
+-- a call that tests soundness, past its room: 2 is in its order, it is not the repair itself, and it is lent the room that it needs
 pub record TestsSoundness (call : Call) : Type 0 where
   pub two : among 2 (order call) ≡ true
   pub other : call ≡ quiet repair → ⊥
-  pub served : among 1 (order call) ≡ true → 32 ≤ length (lent call)
+  pub served : roomOf call ≤ length (lent call)
 
 -- "and is not sound": each of them, a read too, is refused with 2, in silence, where some zone has such a window, whatever zone it is meant for.
 -- `shut-gives-two`, in proofs/Unsound.antt

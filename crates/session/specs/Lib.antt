@@ -7,3 +7,4 @@ pub mod Bookings
 pub mod Inputs
 pub mod Order
 pub mod Neighbours
+pub mod Recipes

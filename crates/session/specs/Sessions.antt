@@ -10,13 +10,15 @@ use Rattle.card.specs.declared.records.Record.{Record}
 use Rattle.card.specs.Answers.{Result}
 use Rattle.card.specs.Calls.{addOf, removeOf, reportOf, applyOf, chooseSourceOf, setpointInUseOf, bookOf, shipOf, mergeOf, repairOf}
 use Rattle.roads.specs.Calls.{Said, Answered, said, answerText, answerFrame, composedLine, composedFrame}
+use Rattle.recipes.specs.Recipes.{loadOf}
 
--- a call that is lent a room, and may reply in it
+-- a call that is lent a room, and may reply in it. What a recipe tells besides (the refused line, its place and the lengths of the replies) stands in loadOf, and not in a session's answers
 pub data Speaking : Type 0 where
   text : ℕ → List ℕ → Speaking
   frame : List ℕ → Speaking
   composeLine : Command → Speaking
   composeFrame : ℕ → Command → Speaking
+  load : List ℕ → Speaking
 
 -- a call without a room, which replies nothing; what it tells is handed back. The old ends that a repair tells stand in repairOf, and not in a session's answers
 pub data Quiet : Type 0 where
@@ -42,6 +44,7 @@ answerIn r (text zone line) room = answerText r zone line room
 answerIn r (frame bytes) room = answerFrame r bytes room
 answerIn r (composeLine command) room = record { said = composedLine command room; after = r }
 answerIn r (composeFrame address command) room = record { said = composedFrame address command room; after = r }
+answerIn r (load recipe) room = loadOf r recipe room .answered
 
 abbrev pub resultOf : Record → Quiet → Result Record
 resultOf r (add zone address range) = addOf r zone address range

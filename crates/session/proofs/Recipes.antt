@@ -1,0 +1,77 @@
+-- A loaded recipe counts as its lines, and a refused one as none. Assumes nothing.
+use Prim.Native.Nat.{ℕ}
+use mathlib.Core.Path.{_≡_, refl, sym, ap, _∙_}
+use mathlib.Core.Bool.{Bool, true, false, cond}
+use mathlib.Core.List.{List, [], _∷_, _++_}
+use lib.ListN.{take, drop}
+use borrow.Author.Tests.{eqb-true, eqb-false}
+use Rattle.zone.specs.Lists.{isZero, every}
+use Rattle.zone.proofs.Tests.{both}
+use Rattle.card.specs.declared.records.Record.{Record}
+use Rattle.roads.specs.Calls.{Said, Answered, answerText}
+use Rattle.texts.specs.Texts.{linesOf}
+use Rattle.recipes.specs.Recipes.{Sending, sendings, inTurn, isDone, leftBy, Loading, loadOf}
+use Rattle.recipes.proofs.Ended.{load-refused, load-done}
+use Rattle.session.specs.Sessions.{text, frame, composeLine, composeFrame, load, Call, inRoom, quiet, after, saidTo, Done, run, answersBy, Throughout}
+use Rattle.session.specs.Recipes.{singly, linesAsCalls, saidEach, LoadedIsItsLines, countsAs, spelledOut, SameSpelledOut, SameByOtherRoad}
+use Rattle.session.proofs.Demand3.{same-end}
+
+-- ---- the lines as calls
+
+singly-left : (r : Record) (lines : List Sending) (room : List ℕ) → run r (singly lines room) ≡ leftBy r (inTurn r lines room)
+unfolding inTurn
+singly-left r [] room = refl
+singly-left r (line ∷ lines) room = singly-left (answerText r (line .zone) (line .command) (take 32 room) .after) lines (drop 32 room)
+
+singly-done : (r : Record) (lines : List Sending) (room : List ℕ) → every isDone (inTurn r lines room) ≡ true → Throughout Done r (singly lines room)
+unfolding inTurn
+singly-done r [] room d = tt
+singly-done r (line ∷ lines) room d =
+    let one = answerText r (line .zone) (line .command) (take 32 room) in
+    let parts = both (isZero (one .said .number)) (every isDone (inTurn (one .after) lines (drop 32 room))) d in
+    (eqb-true (one .said .number) 0 (parts .0), singly-done (one .after) lines (drop 32 room) (parts .1))
+
+singly-said : (r : Record) (lines : List Sending) (room : List ℕ) → answersBy after saidTo r (singly lines room) ≡ saidEach (inTurn r lines room)
+unfolding inTurn
+singly-said r [] room = refl
+singly-said r (line ∷ lines) room =
+    let one = answerText r (line .zone) (line .command) (take 32 room) in
+    ap (λ (l : List Said). one .said ∷ l) (singly-said (one .after) lines (drop 32 room))
+
+pub is-its-lines : LoadedIsItsLines
+is-its-lines r recipe room d =
+    let k = load-done r recipe room d in
+    let lines = sendings (linesOf recipe) in
+    record {
+      record-left = ap (λ (o : Loading). o .answered .after) (k .2) ∙ sym (singly-left r lines room);
+      each-done = singly-done r lines room (k .1);
+      said-each = singly-said r lines room;
+    }
+
+-- ---- whole sessions
+
+run-append : (r : Record) (xs ys : List Call) → run r (xs ++ ys) ≡ run (run r xs) ys
+run-append r [] ys = refl
+run-append r (x ∷ xs) ys = run-append (after r x) xs ys
+
+counts : (r : Record) (call : Call) → run r (countsAs r call) ≡ after r call
+counts r (inRoom (text n line) room) = refl
+counts r (inRoom (frame bytes) room) = refl
+counts r (inRoom (composeLine c) room) = refl
+counts r (inRoom (composeFrame a c) room) = refl
+counts r (inRoom (load recipe) room) = by-done (isZero (loadOf r recipe room .answered .said .number)) refl
+  where
+    by-done : (t : Bool) → isZero (loadOf r recipe room .answered .said .number) ≡ t → run r (cond t (linesAsCalls recipe room) []) ≡ loadOf r recipe room .answered .after
+    by-done true e = sym (is-its-lines r recipe room (eqb-true (loadOf r recipe room .answered .said .number) 0 e) .record-left)
+    by-done false e = sym (ap (λ (a : Answered). a .after) (load-refused r recipe room (eqb-false (loadOf r recipe room .answered .said .number) 0 e)))
+counts r (quiet call) = refl
+
+pub same-spelled : SameSpelledOut
+same-spelled r [] = refl
+same-spelled r (call ∷ calls) =
+    same-spelled (after r call) calls
+    ∙ ap (λ (s : Record). run s (spelledOut (after r call) calls)) (sym (counts r call))
+    ∙ sym (run-append r (countsAs r call) (spelledOut (after r call) calls))
+
+pub same-by-other-road : SameByOtherRoad
+same-by-other-road r calls others w = same-spelled r calls ∙ same-end r (spelledOut r calls) others w
