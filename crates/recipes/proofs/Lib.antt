@@ -4,4 +4,6 @@ pub mod Sent
 pub mod Turns
 pub mod Cases
 pub mod Told
-pub mod Ended
+pub mod Few
+pub mod Unique
+pub mod Worked

@@ -20,7 +20,7 @@ use Rattle.wire.specs.declared.Parsed.{Parsed}
 use Rattle.wire.specs.declared.Parsed.the-variants.{Known, Unknown, Syntax}
 use Rattle.line.specs.Line.{lineRead}
 use Rattle.roads.specs.Calls.{Answered, parsedRows, portRows, resultAt, textResult, inTextReply, answerText, placeBy, textPlace}
-use Rattle.recipes.specs.Recipes.{Sending, Sent, sent, inTurn, isDone, leftBy, roomBy, ofRefused, oneMore, refusedLine}
+use Rattle.recipes.specs.Recipes.{Sending, Sent, inTurn, isDone, leftBy, roomBy, ofRefused, oneMore, refusedLine}
 use Rattle.recipes.specs.Inner.{portResult, portPlace, Trying, behind, tryFrom, replyOf, repliesIn}
 
 -- ---- one line

@@ -7,7 +7,7 @@ use mathlib.Core.List.{List, [], _∷_, _++_}
 use native.Mathlib.Omega.{arith}
 use lib.ListN.{length, take, drop, length-drop}
 use lib.Dec.{ltb}
-use borrow.Author.Tests.{ltb-false, eqb-true, eqb-false, eq-eqb, ne-eqb, not-false}
+use borrow.Author.Tests.{ltb-false, le-ltb, eqb-true, eqb-false, eq-eqb, ne-eqb, not-false}
 use Rattle.zone.specs.Lists.{isZero, every, some}
 use Rattle.zone.specs.declared.figures.Command.the-variants.{Read, Write}
 use Rattle.zone.specs.declared.zones.Zone.{Zone}
@@ -20,26 +20,26 @@ use Rattle.card.proofs.Rows.{apart, exactly}
 use Rattle.wire.specs.declared.Parsed.{Parsed}
 use Rattle.wire.specs.declared.Parsed.the-variants.{Known, Unknown, Syntax}
 use Rattle.line.specs.Line.{lineRead}
-use Rattle.roads.specs.Calls.{parsedRows, portRows}
+use Rattle.roads.specs.Calls.{said, parsedRows, portRows}
 use Rattle.texts.specs.Texts.{linesOf}
 use Rattle.texts.proofs.Parts.{by-test}
 use Rattle.recipes.specs.Recipes.{lacks, Sending, sendings, Sent, sent, inTurn, isDone, ofRefused, refusedLine, Loading, refusedWith, loadedWith, triedWith, formRows, loadOf, loadOrder, loadRows}
-use Rattle.recipes.specs.Rules.{sentSingly, LoadExactly, LoadInOrder, FirstRefused, WellFormed, LineExactly, Whole, LoadsWhole, LoadsIfEachIsDone, Because, of-its-form, of-a-line, OrNotAtAll}
+use Rattle.recipes.specs.Rules.{sentSingly, LoadExactly, LoadInOrder, FirstRefused, WellFormed, LineExactly, LoadsWhole, LoadsIfEachIsDone, Reports, Because, of-its-form, of-a-line, NotAtAll, OrNotAtAll}
 use Rattle.recipes.specs.Inner.{portResult, portPlace}
 use Rattle.recipes.proofs.Sent.{port-stays, sentAs, in-turn-next}
 use Rattle.recipes.proofs.Cases.{as-many}
 
 -- ---- lines sent singly: each is done, or one is the first that is not
 
-abbrev Refusal : List Sent → Type 0
-Refusal all = (k : ℕ) × (one : Sent) × FirstRefused all k one
+abbrev OneRefused : List Sent → Type 0
+OneRefused all = (k : ℕ) × (one : Sent) × FirstRefused all k one
 
-done-or-not : (all : List Sent) → (every isDone all ≡ true) ⊎ Refusal all
+done-or-not : (all : List Sent) → (every isDone all ≡ true) ⊎ OneRefused all
 done-or-not [] = inl refl
 done-or-not (one ∷ more) =
     by-test (isDone one) (λ e. on e (done-or-not more)) (λ e. inr (0, one, record { before = []; behind = more; split = refl; count = refl; done = refl; refused = e }))
   where
-    on : isDone one ≡ true → (every isDone more ≡ true) ⊎ Refusal more → (every isDone (one ∷ more) ≡ true) ⊎ Refusal (one ∷ more)
+    on : isDone one ≡ true → (every isDone more ≡ true) ⊎ OneRefused more → (every isDone (one ∷ more) ≡ true) ⊎ OneRefused (one ∷ more)
     on e (inl d) = inl (rw e d)
     on e (inr (k, x, f)) =
         inr (
@@ -113,6 +113,10 @@ module _ (r : Record) (recipe room : List ℕ) where
         formed = third .1;
       }
 
+  -- and where they are known, 1, 2 and 14 do not apply
+  pub well-formed : Fine → WellFormed r recipe room
+  well-formed f = rw (le-ltb (length room) (32 * length (linesOf recipe)) (f .enough), f .is-sound, le-ltb 64 (length (linesOf recipe)) (f .few), f .formed)
+
   by-form : {R : Type 0} → (WellFormed r recipe room → R) → ((form ≡ 0 → ⊥) → R) → R
   by-form f g = by-test (isZero form) (λ e. f (eqb-true form 0 e)) (λ e. g (eqb-false form 0 e))
 
@@ -132,7 +136,7 @@ module _ (r : Record) (recipe room : List ℕ) where
   pub ends : Ends
   ends = by-form r recipe room (λ w. tried w (done-or-not (all r recipe room))) (λ u. by-its-form u (ill r recipe room u))
     where
-      tried : WellFormed r recipe room → (every isDone (all r recipe room) ≡ true) ⊎ Refusal (all r recipe room) → Ends
+      tried : WellFormed r recipe room → (every isDone (all r recipe room) ≡ true) ⊎ OneRefused (all r recipe room) → Ends
       tried w (inl d) = well-done w d (well r recipe room w ∙ done-with r room (all r recipe room) d)
       tried w (inr (k, one, f)) = by-a-line k one w f (eqb-false (one .answered .said .number) 0 (f .refused)) (well r recipe room w ∙ refused-with r room (all r recipe room) k one f)
 
@@ -149,29 +153,62 @@ line-exactly r recipe room k = (to-it (ends r recipe room), from-it)
     from-it : WellFormed r recipe room × ((one : Sent) × FirstRefused (all r recipe room) k one) → loadOf r recipe room .line ≡ suc k
     from-it t = ap (λ (x : Loading). x .line) (well r recipe room (t .0) ∙ refused-with r room (all r recipe room) k (t .1 .0) (t .1 .1))
 
-pub whole : LoadsWhole
-whole r recipe room z = by-end (ends r recipe room)
+-- of a done recipe
+pub record Done (r : Record) (recipe room : List ℕ) : Type 0 where
+  pub form-right : WellFormed r recipe room
+  pub each-done : every isDone (sentSingly r recipe room) ≡ true
+  pub comes-to : loadOf r recipe room ≡ loadedWith r room (sentSingly r recipe room)
+
+pub done : (r : Record) (recipe room : List ℕ) → loadOf r recipe room .answered .said .number ≡ 0 → Done r recipe room
+done r recipe room z = by-end (ends r recipe room)
   where
-    by-end : Ends r recipe room → Whole r recipe room
+    by-end : Ends r recipe room → Done r recipe room
     by-end (by-its-form u e) = absurd (u (sym (ap (λ (x : Loading). x .answered .said .number) e) ∙ z))
     by-end (by-a-line k one w f u e) = absurd (u (sym (ap (λ (x : Loading). x .answered .said .number) e) ∙ z))
-    by-end (well-done w d e) = record {
-      each-done = d;
-      record-left = ap (λ (x : Loading). x .answered .after) e;
-      room-left = ap (λ (x : Loading). x .answered .said .room) e;
-      lengths-told = ap (λ (x : Loading). x .lengths) e;
-      no-line = (ap (λ (x : Loading). x .line) e, ap (λ (x : Loading). x .place) e);
+    by-end (well-done w d e) = record { form-right = w; each-done = d; comes-to = e }
+
+pub whole : LoadsWhole
+whole r recipe room z =
+    let d = done r recipe room z in
+    record {
+      each-done = d .each-done;
+      record-left = ap (λ (x : Loading). x .answered .after) (d .comes-to);
+      room-left = ap (λ (x : Loading). x .answered .said .room) (d .comes-to);
+      lengths-told = ap (λ (x : Loading). x .lengths) (d .comes-to);
+      no-line = (ap (λ (x : Loading). x .line) (d .comes-to), ap (λ (x : Loading). x .place) (d .comes-to));
     }
 
+pub loaded : (r : Record) (recipe room : List ℕ) → WellFormed r recipe room → every isDone (sentSingly r recipe room) ≡ true → loadOf r recipe room ≡ loadedWith r room (sentSingly r recipe room)
+loaded r recipe room w d = well r recipe room w ∙ done-with r room (all r recipe room) d
+
 pub loads : LoadsIfEachIsDone
-loads r recipe room w d = ap (λ (x : Loading). x .answered .said .number) (well r recipe room w ∙ done-with r room (all r recipe room) d)
+loads r recipe room w d = ap (λ (x : Loading). x .answered .said .number) (loaded r recipe room w d)
 
 pub or-not-at-all : OrNotAtAll
 or-not-at-all r recipe room u = by-end (ends r recipe room)
   where
-    by-end : Ends r recipe room → Because r recipe room
-    by-end (by-its-form n e) = of-its-form e
-    by-end (by-a-line k one w f n e) = of-a-line k one w f e
+    -- what is left by a refusal, whatever it reports
+    left : (number line place : ℕ) → loadOf r recipe room ≡ refusedWith r room number line place → (Reports r recipe room number line place → Because r recipe room) → NotAtAll r recipe room
+    left number line place e why = record {
+      record-kept = ap (λ (x : Loading). x .answered .after) e;
+      room-kept = ap (λ (x : Loading). x .answered .said .room) e;
+      tells-nothing = (ap (λ (x : Loading). x .answered .said .values) e, ap (λ (x : Loading). x .lengths) e);
+      because = why (ap (λ (x : Loading). x .answered .said .number) e, ap (λ (x : Loading). x .line) e, ap (λ (x : Loading). x .place) e);
+    }
+
+    by-end : Ends r recipe room → NotAtAll r recipe room
+    by-end (by-its-form n e) = left (form r recipe room) 0 0 e of-its-form
+    by-end (by-a-line k one w f n e) = left (one .answered .said .number) (suc k) (one .place) e (of-a-line k one w f)
+    by-end (well-done w d e) = absurd (u (ap (λ (x : Loading). x .answered .said .number) e))
+
+-- in short, for those who cite it: a call that is not done leaves the record and the room
+pub load-refused : (r : Record) (recipe room : List ℕ) → (loadOf r recipe room .answered .said .number ≡ 0 → ⊥)
+    → loadOf r recipe room .answered ≡ record { said = said (loadOf r recipe room .answered .said .number) [] [] room; after = r }
+load-refused r recipe room u = by-end (ends r recipe room)
+  where
+    by-end : Ends r recipe room → loadOf r recipe room .answered ≡ record { said = said (loadOf r recipe room .answered .said .number) [] [] room; after = r }
+    by-end (by-its-form n e) = rw e
+    by-end (by-a-line k one w f n e) = rw e
     by-end (well-done w d e) = absurd (u (ap (λ (x : Loading). x .answered .said .number) e))
 
 -- ---- when each number is given
@@ -186,24 +223,24 @@ by-rows P none some r (line ∷ lines) room =
     (λ e. rw e (by-rows P none some (sent r line (take 32 room) .answered .after) lines (drop 32 room)))
     (λ e. rw e (some r (line .zone) (line .command)))
 
--- behind 1, 2 and 14 they are other numbers, in the printed order
-pub record Behind (rows : List Row) : Type 0 where
-  pub new : apart ((true gives 1) ∷ (true gives 2) ∷ (true gives 14) ∷ rows) ≡ true
-  pub order : InOrder ((true gives 1) ∷ (true gives 2) ∷ (true gives 14) ∷ rows) loadOrder
+-- they follow 1, 2 and 14: other numbers, in the printed order
+record Follows (rows : List Row) : Type 0 where
+  new : apart ((true gives 1) ∷ (true gives 2) ∷ (true gives 14) ∷ rows) ≡ true
+  order : InOrder ((true gives 1) ∷ (true gives 2) ∷ (true gives 14) ∷ rows) loadOrder
 
-port-behind : (t : Bool) (z : Zone) (p : Parsed) → Behind ((t gives 3) ∷ parsedRows z p)
-port-behind t z (Known (Read g)) = record { new = refl; order = refl }
-port-behind t z (Known (Write f)) = record { new = refl; order = refl }
-port-behind t z Unknown = record { new = refl; order = refl }
-port-behind t z Syntax = record { new = refl; order = refl }
+port-follows : (t : Bool) (z : Zone) (p : Parsed) → Follows ((t gives 3) ∷ parsedRows z p)
+port-follows t z (Known (Read g)) = record { new = refl; order = refl }
+port-follows t z (Known (Write f)) = record { new = refl; order = refl }
+port-follows t z Unknown = record { new = refl; order = refl }
+port-follows t z Syntax = record { new = refl; order = refl }
 
-behind : (r : Record) (lines : List Sending) (room : List ℕ) → Behind (ofRefused (λ one. one .refusals) [] (inTurn r lines room))
-behind = by-rows Behind (record { new = refl; order = refl }) (λ r n command. port-behind (noZone r n) (zoneAt r n) (lineRead command))
+follows : (r : Record) (lines : List Sending) (room : List ℕ) → Follows (ofRefused (λ one. one .refusals) [] (inTurn r lines room))
+follows = by-rows Follows (record { new = refl; order = refl }) (λ r n command. port-follows (noZone r n) (zoneAt r n) (lineRead command))
 
 pub load-order : LoadInOrder
-load-order r recipe room = behind r (sendings (linesOf recipe)) room .order
+load-order r recipe room = follows r (sendings (linesOf recipe)) room .order
 
--- where the record is sound and the room enough, the first refused line's number is that of its refusals
+-- where the record is sound and the room enough, the number of the first refused line is the one that its refusals give
 record Agrees (all : List Sent) : Type 0 where
   told : ofRefused (λ one. one .answered .said .number) 0 all ≡ first (ofRefused (λ one. one .refusals) [] all)
 
@@ -255,4 +292,4 @@ number-first r recipe room =
     more = ofRefused (λ one. one .refusals) [] (all r recipe room)
 
 pub load-exactly : LoadExactly
-load-exactly r recipe room = rw (number-first r recipe room) (exactly (loadRows r recipe room) (behind r (sendings (linesOf recipe)) room .new))
+load-exactly r recipe room = rw (number-first r recipe room) (exactly (loadRows r recipe room) (follows r (sendings (linesOf recipe)) room .new))

@@ -67,15 +67,26 @@ LoadsIfEachIsDone = (r : Record) (recipe room : List ℕ) → WellFormed r recip
 
 -- ---- "or not at all"
 
--- why it was refused: 1, 2 or 14, before any line is tried, with line number 0; or the first refused line, by its number, its answer and its place
-pub data Because (r : Record) (recipe room : List ℕ) : Type 0 where
-  of-its-form : loadOf r recipe room ≡ refusedWith r room (first (formRows r (linesOf recipe) room)) 0 0 → Because r recipe room
-  of-a-line : (k : ℕ) (one : Sent) → WellFormed r recipe room → FirstRefused (sentSingly r recipe room) k one
-      → loadOf r recipe room ≡ refusedWith r room (one .answered .said .number) (suc k) (one .place) → Because r recipe room
+-- what it reports: the answer's number, the number of the line, and the place
+abbrev pub Reports : Record → List ℕ → List ℕ → ℕ → ℕ → ℕ → Type 0
+Reports r recipe room number line place = (loadOf r recipe room .answered .said .number ≡ number) × (loadOf r recipe room .line ≡ line) × (loadOf r recipe room .place ≡ place)
 
--- "the card keeps the sixteen zones as they were before the first line"; the room is as it was, and no length is told (refusedWith, Recipes.antt). `or-not-at-all`, in proofs/Told.antt
+-- why: 1, 2 or 14, before any line is tried, with line number 0; or "the first refused line's number, from 1, and answer", and its place
+pub data Because (r : Record) (recipe room : List ℕ) : Type 0 where
+  of-its-form : Reports r recipe room (first (formRows r (linesOf recipe) room)) 0 0 → Because r recipe room
+  of-a-line : (k : ℕ) (one : Sent) → WellFormed r recipe room → FirstRefused (sentSingly r recipe room) k one → Reports r recipe room (one .answered .said .number) (suc k) (one .place) → Because r recipe room
+
+pub record NotAtAll (r : Record) (recipe room : List ℕ) : Type 0 where
+  -- "the card keeps the sixteen zones as they were before the first line"
+  pub record-kept : loadOf r recipe room .answered .after ≡ r
+  -- "a refused recipe writes nothing there", and tells nothing
+  pub room-kept : loadOf r recipe room .answered .said .room ≡ room
+  pub tells-nothing : (loadOf r recipe room .answered .said .values ≡ []) × (loadOf r recipe room .lengths ≡ replicate 64 0)
+  pub because : Because r recipe room
+
+-- `or-not-at-all`, in proofs/Told.antt: of every recipe that is not done
 abbrev pub OrNotAtAll : Type 0
-OrNotAtAll = (r : Record) (recipe room : List ℕ) → (loadOf r recipe room .answered .said .number ≡ 0 → ⊥) → Because r recipe room
+OrNotAtAll = (r : Record) (recipe room : List ℕ) → (loadOf r recipe room .answered .said .number ≡ 0 → ⊥) → NotAtAll r recipe room
 
 -- ---- few lines
 

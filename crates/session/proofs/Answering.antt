@@ -32,8 +32,7 @@ use Rattle.roads.proofs.Exactly.{text-order, frame-order, compose-order, write-
 use Rattle.texts.specs.Texts.{linesOf}
 use Rattle.recipes.specs.Recipes.{Sending, sendings, inTurn, roomBy, loadOf}
 use Rattle.recipes.proofs.Cases.{as-many}
-use Rattle.recipes.proofs.Ended.{load-refused}
-use Rattle.recipes.proofs.Told.{Ends, by-its-form, by-a-line, well-done, ends, fine, load-order, number-first, load-exactly}
+use Rattle.recipes.proofs.Told.{Ends, by-its-form, by-a-line, well-done, ends, fine, load-order, number-first, load-exactly, load-refused}
 use Rattle.session.specs.Sessions.{text, frame, composeLine, composeFrame, load, add, remove, report, apply, chooseSource, setpointInUse, book, ship, merge, repair, Call, inRoom, quiet, answerTo, Done}
 use Rattle.session.specs.Demands.{order, refusals, among, lent, fixed, EveryCallAnswers, WritesHaveTheWholeOrder, CallsHaveTheWholeOrder}
 

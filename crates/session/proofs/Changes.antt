@@ -37,7 +37,7 @@ use Rattle.roads.specs.Calls.{textResult, answerText, zoneFound, frameResult, a
 use Rattle.roads.proofs.Local.{text-touches, frame-touches}
 use Rattle.texts.specs.Texts.{linesOf}
 use Rattle.recipes.specs.Recipes.{Sending, sendings, inTurn, isDone, leftBy, Loading}
-use Rattle.recipes.proofs.Ended.{load-done}
+use Rattle.recipes.proofs.Told.{done}
 use Rattle.session.specs.Sessions.{text, frame, composeLine, composeFrame, load, add, remove, report, apply, chooseSource, setpointInUse, book, ship, merge, repair, Call, inRoom, quiet, after, Done}
 use Rattle.session.specs.Changes.{Writes, by-apply, by-line, by-frame, Reports, reported, merged, Removes, removed, merged-away, Adds, added, Chooses, chosen, Rebooks, booked, shipped, moved-in, Repairs, repaired, writeIn, writesTo, Loads, loaded, SetsInTurn, WhatIsDoneIsSet, Becomes, stays, written, was-reported, was-removed, was-added, was-chosen, was-rebooked, was-mended, was-loaded, EveryZoneBecomes}
 use Rattle.session.proofs.Answering.{record-kept, by-done}
@@ -179,8 +179,8 @@ lines-set-all r (line ∷ lines) room n d =
 
 load-sets : (r : Record) (recipe room : List ℕ) (n : ℕ) → Done r (inRoom (load recipe) room) → SetsInTurn (zoneAt r n) (writesTo n (sendings (linesOf recipe))) (zoneAt (after r (inRoom (load recipe) room)) n)
 load-sets r recipe room n d =
-    let k = load-done r recipe room d in
-    rw (ap (λ (o : Loading). o .answered .after) (k .2)) (lines-set-all r (sendings (linesOf recipe)) room n (k .1))
+    let k = done r recipe room d in
+    rw (ap (λ (o : Loading). o .answered .after) (k .comes-to)) (lines-set-all r (sendings (linesOf recipe)) room n (k .each-done))
 
 -- a zone that is not there has no done line
 lines-leave : (r : Record) (lines : List Sending) (room : List ℕ) (n : ℕ) → every isDone (inTurn r lines room) ≡ true → zoneAt r n .present ≡ false → zoneAt (leftBy r (inTurn r lines room)) n ≡ zoneAt r n
@@ -199,8 +199,8 @@ load-becomes r recipe room n d = by-presence (zoneAt r n .present) refl
     by-presence : (t : Bool) → zoneAt r n .present ≡ t → Becomes r n (inRoom (load recipe) room) (zoneAt (after r (inRoom (load recipe) room)) n)
     by-presence true p = was-loaded (writesTo n (sendings (linesOf recipe))) (loaded recipe room d refl) p (load-sets r recipe room n d)
     by-presence false p =
-        let k = load-done r recipe room d in
-        stays (ap (λ (o : Loading). zoneAt (o .answered .after) n) (k .2) ∙ lines-leave r (sendings (linesOf recipe)) room n (k .1) p)
+        let k = done r recipe room d in
+        stays (ap (λ (o : Loading). zoneAt (o .answered .after) n) (k .comes-to) ∙ lines-leave r (sendings (linesOf recipe)) room n (k .each-done) p)
 
 -- ---- what becomes of a zone
 

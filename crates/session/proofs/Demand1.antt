@@ -28,7 +28,7 @@ use Rattle.roads.specs.Calls.{Answered, tooSmall, parsedRows, answerText, holde
 use Rattle.roads.proofs.Local.{text-touches}
 use Rattle.texts.specs.Texts.{linesOf}
 use Rattle.recipes.specs.Recipes.{Sending, sendings, inTurn, isDone}
-use Rattle.recipes.proofs.Ended.{load-done}
+use Rattle.recipes.proofs.Told.{done}
 use Rattle.session.specs.Sessions.{load, Quiet, Call, inRoom, quiet, answerTo, after, Done, run, Throughout}
 use Rattle.session.specs.Changes.{Becomes, stays, written, was-reported, was-removed, was-added, was-chosen, was-rebooked, was-mended, was-loaded, Removes, removed, merged-away, merged, Adds, NotAdded, NotGiven}
 use Rattle.session.specs.Demands.{StaysEmpty, StaysRemoved, MeetsSilence, refusedSilently, PointsAt, applies, reports, removes, chooses, asks, books, ships, merges, merges-into, RemovedStaysGone}
@@ -193,7 +193,7 @@ lines-refused r (line ∷ lines) room n e h d =
     lines-refused (one .after) lines (drop 32 room) n (text-touches r (line .zone) (line .command) (take 32 room) n (λ q. apart (sym q)) ∙ e) (rw (ne-eqb (line .zone) n apart) at h) (parts .1)
 
 recipe-refused : (r : Record) (recipe room : List ℕ) (n : ℕ) → zoneAt r n ≡ emptyZone → some (λ line. eqb (line .zone) n) (sendings (linesOf recipe)) ≡ true → Done r (inRoom (load recipe) room) → ⊥
-recipe-refused r recipe room n e h d = lines-refused r (sendings (linesOf recipe)) room n e h (load-done r recipe room d .1)
+recipe-refused r recipe room n e h d = lines-refused r (sendings (linesOf recipe)) room n e h (done r recipe room d .each-done)
 
 pub stays-gone : RemovedStaysGone
 stays-gone r n removal calls room w h =

@@ -34,7 +34,7 @@ use Rattle.roads.proofs.Applied.{text-applies, frame-applies}
 use Rattle.roads.proofs.Replies.{in-range-both}
 use Rattle.texts.specs.Texts.{linesOf}
 use Rattle.recipes.specs.Recipes.{Sending, sendings, inTurn, leftBy, Loading, loadOf}
-use Rattle.recipes.proofs.Ended.{load-done}
+use Rattle.recipes.proofs.Told.{done}
 use Rattle.session.specs.Sessions.{text, frame, composeLine, composeFrame, load, add, remove, report, apply, chooseSource, setpointInUse, book, ship, merge, repair, Call, inRoom, quiet, answerTo, after, Done, runBy}
 use Rattle.session.specs.Demands.{bothCarry, bothBound, BothBounds, BothCarried, Present, Same, SameByBoth, StaysSound, OnlyLines, OnlyFrames, OtherRoad, by-frame, by-text, Rerouted, over, as-before, other-road, SameEnd}
 use Rattle.session.proofs.Answering.{record-kept, by-done}
@@ -163,7 +163,7 @@ lines-sound r (line ∷ lines) room s =
     lines-sound (after r call) lines (drop 32 room) (kept-or-done r call s (text-sound r (line .zone) (line .command) (take 32 room) s))
 
 load-sound : (r : Record) (recipe room : List ℕ) → sound r ≡ true → loadOf r recipe room .answered .said .number ≡ 0 → sound (loadOf r recipe room .answered .after) ≡ true
-load-sound r recipe room s d = ap (λ (o : Loading). sound (o .answered .after)) (load-done r recipe room d .2) ∙ lines-sound r (sendings (linesOf recipe)) room s
+load-sound r recipe room s d = ap (λ (o : Loading). sound (o .answered .after)) (done r recipe room d .comes-to) ∙ lines-sound r (sendings (linesOf recipe)) room s
 
 one-sound : (r : Record) (call : Call) → sound r ≡ true → sound (after r call) ≡ true
 one-sound r (inRoom (text n line) room) s = kept-or-done r (inRoom (text n line) room) s (text-sound r n line room s)

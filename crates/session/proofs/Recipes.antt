@@ -11,7 +11,7 @@ use Rattle.card.specs.declared.records.Record.{Record}
 use Rattle.roads.specs.Calls.{Said, Answered, answerText}
 use Rattle.texts.specs.Texts.{linesOf}
 use Rattle.recipes.specs.Recipes.{Sending, sendings, inTurn, isDone, leftBy, Loading, loadOf}
-use Rattle.recipes.proofs.Ended.{load-refused, load-done}
+use Rattle.recipes.proofs.Told.{load-refused, done}
 use Rattle.session.specs.Sessions.{text, frame, composeLine, composeFrame, load, Call, inRoom, quiet, after, saidTo, Done, run, answersBy, Throughout}
 use Rattle.session.specs.Recipes.{singly, linesAsCalls, saidEach, LoadedIsItsLines, countsAs, spelledOut, SameSpelledOut, SameByOtherRoad}
 use Rattle.session.proofs.Demand3.{same-end}
@@ -40,11 +40,11 @@ singly-said r (line ∷ lines) room =
 
 pub is-its-lines : LoadedIsItsLines
 is-its-lines r recipe room d =
-    let k = load-done r recipe room d in
+    let k = done r recipe room d in
     let lines = sendings (linesOf recipe) in
     record {
-      record-left = ap (λ (o : Loading). o .answered .after) (k .2) ∙ sym (singly-left r lines room);
-      each-done = singly-done r lines room (k .1);
+      record-left = ap (λ (o : Loading). o .answered .after) (k .comes-to) ∙ sym (singly-left r lines room);
+      each-done = singly-done r lines room (k .each-done);
       said-each = singly-said r lines room;
     }
 

@@ -18,8 +18,7 @@ use Rattle.roads.specs.Acknowledgements.{textReply, frameReply}
 use Rattle.roads.specs.Calls.{said, answerText, answerFrame}
 use Rattle.recipes.specs.Recipes.{Loading}
 use Rattle.recipes.proofs.Cases.{not-sound}
-use Rattle.recipes.proofs.Told.{fine}
-use Rattle.recipes.proofs.Ended.{load-done}
+use Rattle.recipes.proofs.Told.{fine, done}
 use Rattle.session.specs.Sessions.{text, frame, composeLine, composeFrame, load, add, remove, report, apply, chooseSource, setpointInUse, book, ship, merge, repair, Call, inRoom, quiet, answerTo, after, Done}
 use Rattle.session.specs.Demands.{lent, TestsSoundness, writeNumber, ShutGivesNine, ShutGivesTwo, RepairHelps, UnsoundStays, FaultyStays}
 use Rattle.session.proofs.Answering.{record-kept, by-done}
@@ -72,7 +71,7 @@ one-stays r (inRoom (text n line) room) s P h u = kept-if r (inRoom (text n line
 one-stays r (inRoom (frame bytes) room) s P h u = kept-if r (inRoom (frame bytes) room) s P h (λ d. frame-is-done r bytes room d .present .sound-record)
 one-stays r (inRoom (composeLine c) room) s P h u = h
 one-stays r (inRoom (composeFrame a c) room) s P h u = h
-one-stays r (inRoom (load recipe) room) s P h u = kept-if r (inRoom (load recipe) room) s P h (λ d. fine r recipe room (load-done r recipe room d .0) .is-sound)
+one-stays r (inRoom (load recipe) room) s P h u = kept-if r (inRoom (load recipe) room) s P h (λ d. fine r recipe room (done r recipe room d .form-right) .is-sound)
 one-stays r (quiet (add n a range)) s P h u = kept-if r (quiet (add n a range)) s P h (λ d. not-false (sound r) (add-exactly r n a range .done .0 d 0))
 one-stays r (quiet (remove n)) s P h u = kept-if r (quiet (remove n)) s P h (λ d. not-false (sound r) (remove-exactly r n .done .0 d 0))
 one-stays r (quiet (report n state actual)) s P h u = kept-if r (quiet (report n state actual)) s P h (λ d. not-false (sound r) (report-exactly r n state actual .done .0 d 0))

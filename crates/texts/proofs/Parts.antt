@@ -2,7 +2,7 @@
 use Prim.Native.Nat.{ℕ, zero, suc, _+_, _-_, _≤_, _<_}
 use mathlib.Core.Path.{_≡_, refl, sym, ap, _∙_}
 use mathlib.Core.Bool.{Bool, true, false}
-use mathlib.Core.List.{List, [], _∷_, _++_, append-nil}
+use mathlib.Core.List.{List, [], _∷_, _++_, append-nil, append-assoc}
 use native.Mathlib.Omega.{arith}
 use lib.ListN.{length, take, drop, length-drop, drop-of-length-le}
 use lib.Dec.{ltb, eqb}
@@ -26,6 +26,18 @@ pub begun-append : (b s t : List ℕ) → begunBehind b (s ++ t) ≡ begunBehind
 unfolding begunBehind
 begun-append b [] t = refl
 begun-append b (x ∷ s) t = by-test (eqb x lineFeed) (λ e. rw e (begun-append [] s t)) (λ e. rw e (begun-append (b ++ (x ∷ [])) s t))
+
+-- where the first part ends in a line feed, or is empty, no line goes from the one into the other
+pub feed-begun : (s : List ℕ) → begun (s ++ (lineFeed ∷ [])) ≡ []
+unfolding begunBehind
+feed-begun s = begun-append [] s (lineFeed ∷ [])
+
+pub none-begun : begun [] ≡ []
+unfolding begunBehind
+none-begun = refl
+
+pub lines-append : (s t : List ℕ) → begun s ≡ [] → linesOf (s ++ t) ≡ linesOf s ++ linesOf t
+lines-append s t e = rw (ended-append [] s t, begun-append [] s t, e, append-nil (ended s)) (append-assoc (ended s) (ended t) (unended (begun t)))
 
 -- ---- a line holds no line feed
 
