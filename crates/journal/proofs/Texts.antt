@@ -3,8 +3,8 @@ use Prim.Native.Nat.{ℕ, _+_, _-_, _*_, _≤_}
 use mathlib.Core.Path.{_≡_, refl, _∙_}
 use mathlib.Core.List.{List, [], _∷_, _++_, append-assoc, append-nil}
 use native.Mathlib.Omega.{arith}
-use lib.ListN.{length, take, drop, length-append, length-drop}
-use lib.Seq.{take-all, take-length, length-take-le, take-at}
+use lib.ListN.{length, take, drop, length-append}
+use lib.Seq.{take-length, length-take-le, take-at}
 use borrow.Rule.Slice.PartMut.{putMid}
 use Rattle.card.specs.declared.records.Record.{Record}
 use Rattle.wire.specs.Room.{placed, Filled}
@@ -52,11 +52,6 @@ unfolding linesYield
 ahead-none given r block written text a e = (a .after ∙ rw e, a .output ∙ rw (e, append-nil written))
 
 -- ---- room for one more line
-
-pub room-behind : (out : List ℕ) (filled : ℕ) → filled + 40 ≤ length out → 40 ≤ length (take (length out - filled) (drop filled out))
-room-behind out filled h =
-    let whole : length (drop filled out) ≤ length out - filled = rw length-drop (omega arith) in
-    rw (take-all (length out - filled) (drop filled out) whole, length-drop) (omega arith)
 
 pub fits-behind : (at filled : ℕ) (block out : List ℕ) → at ≤ length block → filled ≤ 8 * at → 8 * length block + 40 ≤ length out → filled + 40 ≤ length out
 fits-behind at filled block out h f k = omega arith

@@ -132,7 +132,7 @@ one-line r recipe line zone command room e z =
 
 -- ---- one recipe behind another
 
-every-both : {A : Type 0} (test : A → Bool) (xs ys : List A) → every test xs ≡ true → every test ys ≡ true → every test (xs ++ ys) ≡ true
+pub every-both : {A : Type 0} (test : A → Bool) (xs ys : List A) → every test xs ≡ true → every test ys ≡ true → every test (xs ++ ys) ≡ true
 every-both test [] ys h k = k
 every-both test (x ∷ xs) ys h k = let b = both (test x) (every test xs) h in rw (b .0) (every-both test xs ys (b .1) k)
 
@@ -140,17 +140,17 @@ some-neither : {A : Type 0} (test : A → Bool) (xs ys : List A) → some test x
 some-neither test [] ys h k = k
 some-neither test (x ∷ xs) ys h k = let b = neither (test x) (some test xs) h in rw (b .0) (some-neither test xs ys (b .1) k)
 
-sendings-append : (xs ys : List (List ℕ)) → sendings (xs ++ ys) ≡ sendings xs ++ sendings ys
+pub sendings-append : (xs ys : List (List ℕ)) → sendings (xs ++ ys) ≡ sendings xs ++ sendings ys
 sendings-append [] ys = refl
 sendings-append (x ∷ xs) ys = rw (sendings-append xs ys) (sym (append-assoc (sendingIn (zoned x)) (sendings xs) (sendings ys)))
 
 -- the room behind one line more
-drop-more : (k : ℕ) (room : List ℕ) → drop (32 * k) (drop 32 room) ≡ drop (32 * suc k) room
+pub drop-more : (k : ℕ) (room : List ℕ) → drop (32 * k) (drop 32 room) ≡ drop (32 * suc k) room
 drop-more k room =
     let n : 32 + 32 * k ≡ 32 * suc k = omega arith in
     drop-drop (32 * k) 32 room ∙ ap (λ (m : ℕ). drop m room) n
 
-in-turn-append : (r : Record) (xs ys : List Sending) (room : List ℕ) → inTurn r (xs ++ ys) room ≡ inTurn r xs room ++ inTurn (leftBy r (inTurn r xs room)) ys (drop (32 * length xs) room)
+pub in-turn-append : (r : Record) (xs ys : List Sending) (room : List ℕ) → inTurn r (xs ++ ys) room ≡ inTurn r xs room ++ inTurn (leftBy r (inTurn r xs room)) ys (drop (32 * length xs) room)
 unfolding inTurn
 in-turn-append r [] ys room = refl
 in-turn-append r (x ∷ xs) ys room =
@@ -158,7 +158,7 @@ in-turn-append r (x ∷ xs) ys room =
     let left = leftBy (one .answered .after) (inTurn (one .answered .after) xs (drop 32 room)) in
     ap (λ (l : List Sent). one ∷ l) (in-turn-append (one .answered .after) xs ys (drop 32 room) ∙ ap (λ (l : List ℕ). inTurn (one .answered .after) xs (drop 32 room) ++ inTurn left ys l) (drop-more (length xs) room))
 
-in-turn-length : (r : Record) (xs : List Sending) (room : List ℕ) → length (inTurn r xs room) ≡ length xs
+pub in-turn-length : (r : Record) (xs : List Sending) (room : List ℕ) → length (inTurn r xs room) ≡ length xs
 unfolding inTurn
 in-turn-length r [] room = refl
 in-turn-length r (x ∷ xs) room = ap suc (in-turn-length (sent r x (take 32 room) .answered .after) xs (drop 32 room))
@@ -168,7 +168,7 @@ left-append r [] b = refl
 left-append r (one ∷ a) b = left-append (one .answered .after) a b
 
 -- each line leaves its 32 bytes as many
-sent-wide : (r : Record) (line : Sending) (lent : List ℕ) → 32 ≤ length lent → length (sent r line lent .answered .said .room) ≡ length lent
+pub sent-wide : (r : Record) (line : Sending) (lent : List ℕ) → 32 ≤ length lent → length (sent r line lent .answered .said .room) ≡ length lent
 unfolding answerText
 sent-wide r line lent h =
     let o = textResult r (line .zone) (line .command) lent in
@@ -207,7 +207,7 @@ lengths-append a b h =
     let f : Sent → ℕ = λ one. one .answered .said .length in
     rw (map-append f a b, length-append a b) (padded-append (map f a) (map f b) (length a) (length b) (length-map a f) (length-map b f) h)
 
-ends-line : (recipe : List ℕ) → EndsItsLine recipe → begun recipe ≡ []
+pub ends-line : (recipe : List ℕ) → EndsItsLine recipe → begun recipe ≡ []
 ends-line recipe (inl e) = rw e none-begun
 ends-line recipe (inr (front, e)) = rw e (feed-begun front)
 

@@ -5,5 +5,6 @@ pub mod Turns
 pub mod Cases
 pub mod Told
 pub mod Few
+pub mod Stands
 pub mod Unique
 pub mod Worked

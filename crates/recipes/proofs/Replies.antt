@@ -54,12 +54,6 @@ put-part : (room reply part : List ℕ) (at n : ℕ) → at + length reply ≤ l
     → putMid at (length room - at) room part ≡ placed room at reply
 put-part room reply part at n fits f = lent-part room reply part at fits (rw (take-length reply) (f .contents))
 
--- the part that is lent has as many bytes as are left
-pub room-left : (room : List ℕ) (at n : ℕ) → at + n ≤ length room → n ≤ length (take (length room - at) (drop at room))
-room-left room at n fits =
-    let all : length (drop at room) ≤ length room - at = rw length-drop (omega arith) in
-    rw (take-all (length room - at) (drop at room) all, length-drop) (omega arith)
-
 -- ---- the replies and their lengths, before and after a turn
 
 -- k replies stand in the room, and their lengths are told; the others are still to come

@@ -84,7 +84,7 @@ abbrev pub ofRefused : {A : Type 0} → (Sent → A) → A → List Sent → A
 ofRefused part none [] = none
 ofRefused part none (one ∷ more) = cond (isDone one) (ofRefused part none more) (part one)
 
--- its "number, from 1"; 0 where no line is refused
+-- its "number, from 1"; 0 where no line is refused. With one line before it a number is one more, but 0 stays 0
 abbrev pub oneMore : ℕ → ℕ
 oneMore zero = zero
 oneMore (suc k) = suc (suc k)
@@ -102,7 +102,7 @@ pub record Loading : Type 0 where
   pub place : ℕ
   pub lengths : List ℕ
 
--- what is seen of what the code hands back, with the room as it then is
+-- what is seen of what the code hands back, with the room as it then is; the answer's one length is not handed back, and is 0 here
 abbrev pub loadedSeen : Loaded → List ℕ → Loading
 loadedSeen o room = record {
   answered = record { said = record { number = numberOf (o .answer); values = valuesOf (o .answer); length = 0; room = room }; after = o .after };
@@ -144,7 +144,7 @@ loadOf r recipe room =
     let form = first (formRows r lines room) in
     cond (isZero form) (triedWith r room (inTurn r (sendings lines) room)) (refusedWith r room form 0 0)
 
--- ---- its refusals, as those of every call: in their order, past 14 those of the first refused line
+-- ---- its refusals, as those of every call: in their order, past 14 those of the first refused line (where 1, 2 or 14 applies, what stands behind them does not matter)
 
 abbrev pub loadOrder : List ℕ
 loadOrder = 1 ∷ 2 ∷ 14 ∷ 3 ∷ 7 ∷ 8 ∷ 9 ∷ 10 ∷ []

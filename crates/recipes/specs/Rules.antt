@@ -1,6 +1,6 @@
 -- What is proved of loading a recipe, for every record, all bytes and every room. Above each statement stands where. What it does among other calls stands in session/specs/Recipes.antt.
 -- "P → ⊥" says that P does not hold, "P ⊎ Q" that one of the two does, "P × Q" that both do, "P ↔ Q" that each holds where the other does.
-use Prim.Native.Nat.{ℕ, suc, _+_, _-_, _*_, _≤_}
+use Prim.Native.Nat.{ℕ, suc, _+_, _-_, _*_, _≤_, _<_}
 use mathlib.Core.Path.{_≡_}
 use mathlib.Core.Logic.{_⊎_, _↔_}
 use mathlib.Core.Bool.{true, false}
@@ -61,6 +61,17 @@ pub record Whole (r : Record) (recipe room : List ℕ) : Type 0 where
 abbrev pub LoadsWhole : Type 0
 LoadsWhole = (r : Record) (recipe room : List ℕ) → loadOf r recipe room .answered .said .number ≡ 0 → Whole r recipe room
 
+-- "Reply k stands at the start of the k-th 32 bytes of the room": there is a reply for each line; line k, from 0, leaves the k-th 32 bytes as it does sent singly, and its length is the k-th of those told; what lies behind the last is as it was
+pub record Stands (r : Record) (recipe room : List ℕ) : Type 0 where
+  pub one-each : length (sentSingly r recipe room) ≡ length (linesOf recipe)
+  pub here : (k : ℕ) (d : Sent) → k < length (linesOf recipe) → take 32 (drop (32 * k) (loadOf r recipe room .answered .said .room)) ≡ getD (sentSingly r recipe room) k d .answered .said .room
+  pub length-here : (k : ℕ) (d : Sent) → k < length (linesOf recipe) → getD (loadOf r recipe room .lengths) k 0 ≡ getD (sentSingly r recipe room) k d .answered .said .length
+  pub beyond : drop (32 * length (linesOf recipe)) (loadOf r recipe room .answered .said .room) ≡ drop (32 * length (linesOf recipe)) room
+
+-- `replies-stand`, in proofs/Stands.antt: of a done recipe
+abbrev pub RepliesStand : Type 0
+RepliesStand = (r : Record) (recipe room : List ℕ) → loadOf r recipe room .answered .said .number ≡ 0 → Stands r recipe room
+
 -- and it is done where it may be: 1, 2 and 14 do not apply, and each line, sent in turn, is answered 0; so a card that loads nothing is ruled out. `loads`, in proofs/Told.antt
 abbrev pub LoadsIfEachIsDone : Type 0
 LoadsIfEachIsDone = (r : Record) (recipe room : List ℕ) → WellFormed r recipe room → every isDone (sentSingly r recipe room) ≡ true → loadOf r recipe room .answered .said .number ≡ 0
@@ -98,7 +109,7 @@ pub record ZeroLines (r : Record) (room : List ℕ) : Type 0 where
 abbrev pub ZeroLinesAreDone : Type 0
 ZeroLinesAreDone = (r : Record) (room : List ℕ) → ZeroLines r room
 
--- a recipe of one line, with its zone and tab, is the text call: its number, its record and its place and, where it is done, its room and length. `one-line`, in proofs/Few.antt
+-- a recipe of one line, with its zone and tab, is the text call: its number, its record and its place and, where it is done, its room and length. (Where it is refused, the text call writes its acknowledgement, and the recipe nothing.) `one-line`, in proofs/Few.antt
 pub record IsText (r : Record) (recipe : List ℕ) (zone : ℕ) (command room : List ℕ) : Type 0 where
   pub number : loadOf r recipe room .answered .said .number ≡ answerText r zone command room .said .number
   pub record-left : loadOf r recipe room .answered .after ≡ answerText r zone command room .after

@@ -27,3 +27,9 @@ lent-part room src last at h e =
     let n : length (drop at room) ≤ length room - at = rw length-drop (omega arith) in
     rw (e, take-length src, take-all (length room - at) (drop at room) n, drop-of-length-le (drop at room) n, drop-drop (length src) at room, append-nil)
     (sym (append-assoc (take at room) src (drop (at + length src) room)))
+
+-- the part that is lent has as many bytes as are left
+pub room-left : (room : List ℕ) (at n : ℕ) → at + n ≤ length room → n ≤ length (take (length room - at) (drop at room))
+room-left room at n fits =
+    let all : length (drop at room) ≤ length room - at = rw length-drop (omega arith) in
+    rw (take-all (length room - at) (drop at room) all, length-drop) (omega arith)

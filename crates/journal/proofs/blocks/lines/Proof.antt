@@ -12,6 +12,7 @@ use Rattle.card.specs.declared.judgements.Verdict.{Verdict}
 use Rattle.card.specs.Records.{sound, zoneAt, withZone}
 use Rattle.card.specs.Answers.{numberOf, valuesOf}
 use Rattle.card.specs.Inner.{answerBy, afterBy}
+use Rattle.wire.proofs.Room.{room-left}
 use Rattle.texts.proofs.Parts.{turn-ended, turn-begun, last-ended, last-begun}
 use Rattle.journal.specs.Journal.{Yield, lineYields}
 use Rattle.journal.specs.declared.judging.Sought.{Sought}
@@ -19,7 +20,7 @@ use Rattle.journal.specs.Inner.{soughtOf, lookUp, outputOf}
 use Rattle.card.proofs.Inner.{unaltered}
 use Rattle.journal.proofs.Judged.{sound-kept, place-below, turn-yields}
 use Rattle.journal.proofs.Bounds.{eight-so-far}
-use Rattle.journal.proofs.Texts.{Ahead, ahead-all, ahead-turn, ahead-none, written-on, room-behind, fits-behind}
+use Rattle.journal.proofs.Texts.{Ahead, ahead-all, ahead-turn, ahead-none, written-on, fits-behind}
 use borrow.Author.Needs.{needs}
 use Rattle.journal.proofs.blocks.lines.Statement.{statement}
 use Rattle.journal.proofs.blocks.lines.Tie as tie
@@ -187,7 +188,7 @@ few c = c .put-judged .ensures .1
 put-judged-requires : tie.Need-put-judged-requires Inv-loop μ-loop
 put-judged-requires c κs =
     let e = line-put c in
-    room-behind (turn e .loop .out) (turn e .loop .filled) (fits e)
+    room-left (turn e .loop .out) (turn e .loop .filled) 40 (fits e)
 
 add-filled : tie.Need-add-filled Inv-loop μ-loop
 add-filled c =

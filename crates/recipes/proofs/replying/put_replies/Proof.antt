@@ -7,8 +7,9 @@ use denote.Ref.{now}
 use lib.ListN.{length, take}
 use borrow.Author.Needs.{needs}
 use Rattle.card.proofs.Scans.{length-mapped}
+use Rattle.wire.proofs.Room.{room-left}
 use Rattle.recipes.specs.Inner.{told}
-use Rattle.recipes.proofs.Replies.{room-left, Ahead, ahead-all, ahead-turn, ahead-none, told-length}
+use Rattle.recipes.proofs.Replies.{Ahead, ahead-all, ahead-turn, ahead-none, told-length}
 use Rattle.recipes.proofs.replying.put_replies.Statement.{statement}
 use Rattle.recipes.proofs.replying.put_replies.Tie as tie
 
