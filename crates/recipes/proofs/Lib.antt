@@ -1,3 +1,4 @@
+pub mod Parts
 pub mod Surveys
 pub mod Replies
 pub mod Sent

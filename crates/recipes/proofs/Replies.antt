@@ -4,8 +4,8 @@ use mathlib.Core.Path.{_≡_, refl, sym, ap, _∙_}
 use mathlib.Core.List.{List, [], _∷_, _++_, map, append-assoc}
 use native.Mathlib.Omega.{arith}
 use native.Mathlib.Numerals.{add-one}
-use lib.ListN.{length, take, drop, set, getD, replicate, length-append, length-drop, length-map, take-append-drop, drop-of-length-le, List·getD-map}
-use lib.Seq.{take-add, take-all, take-length, drop-drop, drop-at, drop-cons, set-at, append-snoc, getD-take, length-take-le, take-append-add, drop-append-add}
+use lib.ListN.{length, take, drop, set, getD, replicate, length-append, length-map, take-append-drop, drop-of-length-le, List·getD-map}
+use lib.Seq.{take-all, take-length, drop-drop, drop-cons, set-at, append-snoc, getD-take, length-take-le, take-append-add, drop-append-add}
 use borrow.Rule.Slice.PartMut.{putMid}
 use Rattle.zone.specs.declared.figures.Figures.{Figures}
 use Rattle.wire.specs.Room.{filled, placed, Filled}
@@ -13,6 +13,7 @@ use Rattle.wire.proofs.Room.{lent-part}
 use Rattle.roads.proofs.Lengths.{text-fits}
 use Rattle.recipes.specs.declared.replying.Told.{Told}
 use Rattle.recipes.specs.Inner.{told, replyOf, repliesIn, lengthsOf}
+use Rattle.recipes.proofs.Parts.{part-behind}
 
 -- ---- a reply put from `at` on, where `width` bytes are its own
 
@@ -28,19 +29,10 @@ module _ (room reply : List ℕ) (at width : ℕ) (fits : at + width ≤ length 
   whole : at + width ≡ length head + (width - length reply)
   whole = omega (arith, head-length)
 
-  -- what of its bytes lies behind it
-  behind : drop (length reply) (take width (drop at room)) ≡ take (width - length reply) (drop (at + length reply) room)
-  behind =
-      let n : width ≡ length reply + (width - length reply) = omega arith in
-      let front : length (take (length reply) (drop at room)) ≡ length reply = length-take-le (length reply) (drop at room) (rw length-drop (omega arith)) in
-      ap (λ (m : ℕ). drop (length reply) (take m (drop at room))) n
-      ∙ rw (take-add (length reply) (width - length reply) (drop at room), drop-drop (length reply) at room)
-      (drop-at (take (length reply) (drop at room)) (take (width - length reply) (drop (at + length reply) room)) (length reply) front)
-
   put-front : take (at + width) (placed room at reply) ≡ take at room ++ filled reply (take width (drop at room))
   unfolding placed head
   put-front =
-      rw (whole, take-append-add head (drop (at + length reply) room) (width - length reply), behind)
+      rw (whole, take-append-add head (drop (at + length reply) room) (width - length reply), part-behind room at width (length reply) fits small)
       (append-assoc (take at room) reply (take (width - length reply) (drop (at + length reply) room)))
 
   put-rest : drop (at + width) (placed room at reply) ≡ drop width (drop at room)

@@ -1,22 +1,24 @@
 -- What the functions on the way come to. Everything here restates Recipes for such a function, without a room, and is proved equal to it; no promise of `load` cites it.
-use Prim.Native.Nat.{ℕ, suc, _-_}
+use Prim.Native.Nat.{ℕ, suc, _-_, _≤_}
 use mathlib.Core.Bool.{cond}
 use mathlib.Core.List.{List, [], _∷_, _++_, map}
 use lib.ListN.{length, take, drop, replicate}
+use lib.Dec.{ltb}
 use Rattle.zone.specs.declared.figures.Figures.{Figures}
 use Rattle.zone.specs.Lists.{isZero}
 use Rattle.card.specs.declared.records.Record.{Record}
 use Rattle.card.specs.Answers.{Result, numberOf, valuesOf}
 use Rattle.card.specs.Records.{zoneAt}
 use Rattle.wire.specs.Room.{filled}
+use Rattle.line.specs.declared.reading.Reading.{Reading}
 use Rattle.line.specs.Line.{lineRead}
 use Rattle.line.specs.Places as places
 use Rattle.roads.specs.Acknowledgements.{textReply}
 use Rattle.roads.specs.Calls.{resultAt, portRows, placeBy}
 use Rattle.texts.specs.Texts.{Zoned, to, lacking, zoned}
 use Rattle.recipes.specs.declared.loading.Trial.{Trial}
-use Rattle.recipes.specs.declared.loading.Whom.{Whom}
-use Rattle.recipes.specs.declared.loading.Heard.{Heard}
+use Rattle.recipes.specs.declared.lines.Whom.{Whom}
+use Rattle.recipes.specs.declared.lines.Cut.{Cut}
 use Rattle.recipes.specs.declared.replying.Told.{Told}
 use Rattle.recipes.specs.Recipes.{Sending}
 
@@ -33,8 +35,24 @@ sendingAt line = sendingBy (zoned line)
 abbrev pub whomSeen : List ℕ → Whom → Sending
 whomSeen line w = record { zone = w .zone; command = drop (w .start) line }
 
-abbrev pub heardOf : Sending → Heard
-heardOf line = record { zone = line .zone; reading = record { parsed = lineRead (line .command); place = places.told (places.wrongIn (line .command)) } }
+-- a line as it was cut out of the recipe: `nowhere` is what stands in the array before
+abbrev pub cutSeen : List ℕ → Cut → Sending
+cutSeen recipe cut = record { zone = cut .zone; command = take (cut .end - cut .start) (drop (cut .start) recipe) }
+
+abbrev pub nowhere : Cut
+nowhere = record { zone = 0; start = 0; end = 0 }
+
+pub record Within (n : ℕ) (cut : Cut) : Type 0 where
+  pub ordered : cut .start ≤ cut .end
+  pub inside : cut .end ≤ n
+
+-- one of the 64 places
+abbrev pub oneOf64 : ℕ → ℕ
+oneOf64 n = cond (ltb n 64) n 63
+
+-- what a command is read as
+abbrev pub readingOf : List ℕ → Reading
+readingOf command = record { parsed = lineRead command; place = places.told (places.wrongIn command) }
 
 -- what it comes to at its zone, where room and record are right
 abbrev pub portResult : Record → Sending → Result Record
