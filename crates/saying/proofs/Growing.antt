@@ -70,5 +70,12 @@ nothing-yet out at =
 pub caret-is : (blanks expected : List ℕ) → 32 ∷ 32 ∷ (blanks ++ (94 ∷ 32 ∷ (expected ++ (10 ∷ [])))) ≡ behindBlanks (blanks ++ (94 ∷ 32 ∷ expected))
 caret-is blanks expected = rw (append-assoc blanks (94 ∷ 32 ∷ expected) (10 ∷ []))
 
+pub bare-caret-is : (blanks : List ℕ) → 32 ∷ 32 ∷ (blanks ++ (94 ∷ 10 ∷ [])) ≡ behindBlanks (blanks ++ (94 ∷ []))
+bare-caret-is blanks = rw (append-assoc blanks (94 ∷ []) (10 ∷ []))
+
+-- a line of a recipe, as it prints
+pub shown-is : (zone command : List ℕ) → 32 ∷ 32 ∷ (zone ++ (32 ∷ (command ++ (10 ∷ [])))) ≡ behindBlanks (zone ++ (32 ∷ command))
+shown-is zone command = rw (append-assoc zone (32 ∷ command) (10 ∷ []))
+
 pub alone : {a o p : List ℕ} {at n : ℕ} → Appended a o p at n → Appended (a ++ []) o p at n
 alone {a} f = rw (append-nil a) f

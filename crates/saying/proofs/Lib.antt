@@ -1,3 +1,4 @@
 pub mod Growing
 pub mod Told
 pub mod Long
+pub mod Recipe

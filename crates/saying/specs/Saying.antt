@@ -30,7 +30,7 @@ answerLine number reply place = decimalFor number ++ (tab ∷ (orDash reply ++ (
 abbrev pub behindBlanks : List ℕ → List ℕ
 behindBlanks words = 32 ∷ 32 ∷ (words ++ (lineFeed ∷ []))
 
--- what a number means, in words: the numbers of the text road, and 13, which stands last; no other is given to a line
+-- what a number means, in words: the numbers of the text road, 14, which a recipe gets, and 13, which stands last; no other is given to a line or a recipe
 abbrev pub meaning : ℕ → List ℕ
 meaning number =
     cond (eqb number 1) (ascii "the room for the reply is below 32 bytes")
@@ -40,7 +40,8 @@ meaning number =
     (cond (eqb number 8) (ascii "syntax error: wrong length, spaces or digits")
     (cond (eqb number 9) (ascii "a figure is outside its range")
     (cond (eqb number 10) (ascii "the write is not permitted in this state")
-    (ascii "unreadable: the line has more than 600 bytes")))))))
+    (cond (eqb number 14) (ascii "not a recipe: more than 64 lines, or a line without its zone and tab")
+    (ascii "unreadable: the line has more than 600 bytes"))))))))
 
 -- a byte that does not print is a dot
 abbrev pub printed : ℕ → ℕ
@@ -80,9 +81,13 @@ missed range figures = cond (eachInRange range figures) (endMissed range figures
 abbrev pub expectation : ℕ → ℕ → List ℕ → ℕ → List ℕ
 expectation number range line place = cond (eqb number 8) (words (expectedAt (expectedIn line) (place - 5))) (ofFigures (missed range) [] (lineRead line))
 
+-- a caret in a column, counted from 0, and what stands behind it
+abbrev pub caret : ℕ → List ℕ → List ℕ
+caret column words = replicate column 32 ++ (94 ∷ words)
+
 -- the line that was sent, and under it a caret at the place with what is expected there
 abbrev pub caretAt : ℕ → List ℕ → List ℕ
-caretAt place expected = replicate place 32 ++ (94 ∷ 32 ∷ expected)
+caretAt column expected = caret column (32 ∷ expected)
 
 abbrev pub pointed : List ℕ → ℕ → List ℕ → List ℕ
 pointed line place expected = behindBlanks (map printed line) ++ behindBlanks (caretAt place expected)

@@ -150,8 +150,9 @@ fn append_sent(line: &[u8], out: &mut [u8], at: usize) -> usize
     append(b"\n", out, b)
 }
 
-// A caret at the place, with what is expected there.
-fn append_caret(
+// A caret in a column, with what is expected at the place that it stands under.
+pub fn append_caret(
+    column: usize,
     number: u32,
     range: u32,
     line: &[u8],
@@ -159,12 +160,12 @@ fn append_caret(
     out: &mut [u8],
     at: usize,
 ) -> usize
-    requires { ⌜ (place ≤ 600) × (at + 617 ≤ length (now out)) ⌝ }
-    ensures { λ r. ⌜ Appended (behindBlanks (caretAt place (expectation number range (now (line .entry)) place))) (now (out .entry)) (now (out .exit)) at r ⌝ }
-    ensures { λ r. ⌜ r ≤ at + 617 ⌝ }
+    requires { ⌜ at + column + 17 ≤ length (now out) ⌝ }
+    ensures { λ r. ⌜ Appended (behindBlanks (caretAt column (expectation number range (now (line .entry)) place))) (now (out .entry)) (now (out .exit)) at r ⌝ }
+    ensures { λ r. ⌜ r ≤ at + column + 17 ⌝ }
 {
     let a = append(b"  ", out, at);
-    let b = append_blanks(place, out, a);
+    let b = append_blanks(column, out, a);
     let c = append(b"^ ", out, b);
     let d = append_expectation(number, range, line, place, out, c);
     append(b"\n", out, d)
@@ -184,11 +185,11 @@ fn append_pointed(
     ensures { λ r. ⌜ r ≤ at + 1220 ⌝ }
 {
     let a = append_sent(line, out, at);
-    append_caret(number, range, line, place, out, a)
+    append_caret(place, number, range, line, place, out, a)
 }
 
 // What the number of a refusal means, on a line of its own.
-fn append_meant(number: u32, out: &mut [u8], at: usize) -> usize
+pub fn append_meant(number: u32, out: &mut [u8], at: usize) -> usize
     requires { ⌜ at + 83 ≤ length (now out) ⌝ }
     ensures { λ r. ⌜ Appended (behindBlanks (meaning number)) (now (out .entry)) (now (out .exit)) at r ⌝ }
     ensures { λ r. ⌜ r ≤ at + 83 ⌝ }

@@ -93,6 +93,13 @@ pub fn append_meaning(number: u32, out: &mut [u8], at: usize) -> usize
     if number == 10 {
         return append(b"the write is not permitted in this state", out, at);
     }
+    if number == 14 {
+        return append(
+            b"not a recipe: more than 64 lines, or a line without its zone and tab",
+            out,
+            at,
+        );
+    }
     append(b"unreadable: the line has more than 600 bytes", out, at)
 }
 

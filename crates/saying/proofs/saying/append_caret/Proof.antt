@@ -13,7 +13,7 @@ returns c =
     let b = k .before .before .before .before .before in
     let a = b .before .before .before .before in (
       rw (← (caret-is _ _)) (behind (a .append .ensures) (behind (b .append-blanks .ensures .0) (behind (k .append2 .ensures) (behind (d .append-expectation .ensures .0) (e .append3 .ensures))))),
-      omega (arith, a .append .ensures .count, b .append-blanks .ensures .1, k .append2 .ensures .count, d .append-expectation .ensures .1, e .append3 .ensures .count, a .before .before .before .before .before .pre .0),
+      omega (arith, a .append .ensures .count, b .append-blanks .ensures .1, k .append2 .ensures .count, d .append-expectation .ensures .1, e .append3 .ensures .count, a .before .before .before .before .before .pre),
     )
 
 pub append-caret-spec : {M : Type 1} → statement M

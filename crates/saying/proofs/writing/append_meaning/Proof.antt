@@ -51,7 +51,13 @@ returns-8 : tie.Need-returns-8
 returns-8 c =
     let p = c .before .before in
     let q = p .before .before .before in
-    (rw (ne-eqb _ _ (q .before .before .before .before .before .before .if1 .left), ne-eqb _ _ (q .before .before .before .before .before .if2 .left), ne-eqb _ _ (q .before .before .before .before .if3 .left), ne-eqb _ _ (q .before .before .before .if4 .left), ne-eqb _ _ (q .before .before .if5 .left), ne-eqb _ _ (q .before .if6 .left), ne-eqb _ _ (q .if7 .left)) (p .append8 .ensures), omega (arith, p .append8 .ensures .count))
+    (rw (ne-eqb _ _ (q .before .before .before .before .before .before .before .if1 .left), ne-eqb _ _ (q .before .before .before .before .before .before .if2 .left), ne-eqb _ _ (q .before .before .before .before .before .if3 .left), ne-eqb _ _ (q .before .before .before .before .if4 .left), ne-eqb _ _ (q .before .before .before .if5 .left), ne-eqb _ _ (q .before .before .if6 .left), ne-eqb _ _ (q .before .if7 .left), eq-eqb _ _ (q .if8 .taken)) (p .append8 .ensures), omega (arith, p .append8 .ensures .count))
+
+returns-9 : tie.Need-returns-9
+returns-9 c =
+    let p = c .before .before in
+    let q = p .before .before .before in
+    (rw (ne-eqb _ _ (q .before .before .before .before .before .before .before .if1 .left), ne-eqb _ _ (q .before .before .before .before .before .before .if2 .left), ne-eqb _ _ (q .before .before .before .before .before .if3 .left), ne-eqb _ _ (q .before .before .before .before .if4 .left), ne-eqb _ _ (q .before .before .before .if5 .left), ne-eqb _ _ (q .before .before .if6 .left), ne-eqb _ _ (q .before .if7 .left), ne-eqb _ _ (q .if8 .left)) (p .append9 .ensures), omega (arith, p .append9 .ensures .count))
 
 pub append-meaning-spec : {M : Type 1} → statement M
 append-meaning-spec =
@@ -88,4 +94,8 @@ append-meaning-spec =
     (λ c. search needs)
     (λ c κs. search needs)
     (λ c. search needs)
-    returns-8)
+    returns-8
+    (λ c. search needs)
+    (λ c κs. search needs)
+    (λ c. search needs)
+    returns-9)
