@@ -2,3 +2,4 @@ pub mod Growing
 pub mod Told
 pub mod Long
 pub mod Recipe
+pub mod Loads
