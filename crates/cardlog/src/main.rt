@@ -11,9 +11,8 @@
 use card::Record;
 ghost use mathlib.Core.Path.{_≡_};
 ghost use mathlib.Core.Bool.{false, _&&_};
-ghost use Prim.Native.Nat.{_≤_, _<_};
+ghost use Prim.Native.Nat.{_≤_};
 ghost use lib.ListN.{length, take};
-ghost use Rattle.journal.specs.Blocks.{closed};
 ghost use Rattle.cardlog.specs.Turns.{Leaves, Turned};
 
 // What is kept between two blocks, how many bytes of output were handed to write, and whether to go on.
@@ -28,19 +27,6 @@ struct Between {
 struct Written {
     handed: usize,
     whole: bool,
-}
-
-// At the end of the input the line under way gets the line feed that it lacks.
-fn close(buffer: &mut [u8], held: usize) -> usize
-    requires { ⌜ held < length (now buffer) ⌝ }
-    ensures { λ r. ⌜ take r (now (buffer .exit)) ≡ closed (take held (now (buffer .entry))) ⌝ }
-    ensures { λ r. ⌜ r ≤ length (now (buffer .entry)) ⌝ }
-{
-    if held == 0 {
-        return 0;
-    }
-    buffer[held] = b'\n';
-    held + 1
 }
 
 // The output: the front of `out`, as far as it is filled.
@@ -110,7 +96,7 @@ fn turn(before: Between, buffer: &mut [u8], out: &mut [u8]) -> Between
     }
     let count = io::count(got, &buffer[held..]);
     if count == 0 {
-        let end = close(buffer, held);
+        let end = journal::close(buffer, held);
         return answer(r, buffer, end, out, false);
     }
     answer(r, buffer, held + count, out, true)

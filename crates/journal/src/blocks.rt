@@ -10,9 +10,9 @@ use card::Record;
 use texts::digit_values;
 use texts::line_end;
 ghost use mathlib.Core.Path.{_≡_};
-ghost use Prim.Native.Nat.{_+_, _*_, _≤_, min};
+ghost use Prim.Native.Nat.{_+_, _*_, _≤_, _<_, min};
 ghost use lib.ListN.{length, take, drop};
-ghost use Rattle.journal.specs.Blocks.{fed, keptSeen};
+ghost use Rattle.journal.specs.Blocks.{fed, closed, keptSeen};
 ghost use Rattle.journal.specs.Inner.{Worked};
 
 // The record after the lines that were answered, where they end, and how much output there is.
@@ -106,4 +106,17 @@ pub fn feed(given: Record, buffer: &mut [u8], end: usize, out: &mut [u8]) -> Kep
         held: held,
         filled: filled,
     }
+}
+
+// At the end of the input the line under way gets the line feed that it lacks.
+pub fn close(buffer: &mut [u8], held: usize) -> usize
+    requires { ⌜ held < length (now buffer) ⌝ }
+    ensures { λ r. ⌜ take r (now (buffer .exit)) ≡ closed (take held (now (buffer .entry))) ⌝ }
+    ensures { λ r. ⌜ r ≤ length (now (buffer .entry)) ⌝ }
+{
+    if held == 0 {
+        return 0;
+    }
+    buffer[held] = b'\n';
+    held + 1
 }

@@ -9,4 +9,5 @@ mod judging;
 mod writing;
 
 pub use blocks::Kept;
+pub use blocks::close;
 pub use blocks::feed;

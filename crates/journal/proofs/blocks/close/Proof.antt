@@ -8,10 +8,10 @@ use denote.Ref.{now}
 use lib.ListN.{length, take}
 use lib.Seq.{length-take-le, take-suc-set}
 use Rattle.texts.specs.Texts.{lineFeed}
 use Rattle.journal.specs.Blocks.{closed}
 use borrow.Author.Needs.{needs}
-use Rattle.cardlog.proofs.close.Statement.{statement}
-use Rattle.cardlog.proofs.close.Tie as tie
+use Rattle.journal.proofs.blocks.close.Statement.{statement}
+use Rattle.journal.proofs.blocks.close.Tie as tie
 
 closed-some : (l : List ℕ) → 0 < length l → closed l ≡ l ++ (lineFeed ∷ [])
 closed-some [] h = absurd (omega arith)
