@@ -1,0 +1,2 @@
+-- What a turn of the program leaves, whatever was read.
+pub mod Turns
