@@ -121,7 +121,9 @@ fn take_named(name: &mut [u8], into: &mut [u8]) -> Taken
     if file < 0 {
         return Taken::Failed;
     }
-    take_in(file, into)
+    let taken = take_in(file, into);
+    libc::close(file);
+    taken
 }
 
 // Hands the bytes to write, and tells how many they are.
