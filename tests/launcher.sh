@@ -15,6 +15,7 @@ root=$(dirname "$here")
 bench_find
 
 day=$root/examples/day.log answers=$root/examples/day.answers
+setup=$root/examples/setup.log night=$root/examples/night refused=$root/examples/night-refused
 real_rt=$(command -v rt) real_sleep=$(command -v sleep)
 export real_rt real_sleep
 tab=$(printf '\t')
@@ -77,6 +78,7 @@ make_root() {
     cp -R "$root/examples" "$own/"
     cp "$program" "$own/target/bin/cardlog"
     cp "$speaker" "$own/target/bin/cardsay"
+    cp "$loader" "$own/target/bin/cardload"
     printf '# A comment.\nzone:\ncardlog: zone io\n' >"$own/crates.txt"
     for script in bench/speed.sh bench/differential.sh tests/launcher.sh; do
         printf 'echo "%s ran"\n' "$script" >"$own/$script"
@@ -280,7 +282,7 @@ test_a_program_that_ends_otherwise_gives_its_status() {
     expect 'the last line on standard error' 'card: the log program ended with status 137' "$(tail -n 1 err)"
 }
 
-# ---- where the launcher is called from, and its words
+# ---- where the launcher is called from, and an operator's lines
 
 test_the_launcher_works_from_any_folder_and_through_links() {
     make_root
@@ -348,13 +350,254 @@ test_what_fails_while_lines_are_sent_is_told() {
     expect_all 7 '' 'card: the program of an operator ended with status 7'
 }
 
+# ---- a recipe
+
+# The sample recipe was loaded, byte by byte, and nothing else happened.
+expect_night() {
+    expect_all 0 "$(cat "$night.answer")" ''
+    cmp -s out "$night.answer" || wrong 'the answer has another end'
+}
+
+# A recipe, as words for printf, is answered so by a card with the zones of the sample setup.
+expect_recipe() { # RECIPE STATUS OUTPUT
+    # shellcheck disable=SC2059
+    printf "$1" >recipe
+    run "$card" load "$setup" recipe
+    expect_all "$2" "$3" ''
+}
+
+test_a_recipe_is_loaded_by_the_proved_program() {
+    make_root
+    run "$card" load "$setup" "$night.recipe"
+    expect_night
+    run "$card" load - "$night.recipe" <"$setup"
+    expect_night
+    expect 'calls of rt' 'check cardload
+check cardload' "$(cat calls)"
+}
+
+test_a_refused_recipe_has_status_1_and_says_why() {
+    make_root
+    run "$card" load "$setup" "$refused.recipe"
+    expect_all 1 "$(cat "$refused.answer")" ''
+    cmp -s out "$refused.answer" || wrong 'the answer has another end'
+    expect 'the line that was refused' "$(sed -n 9p "$refused.recipe" | tr '\t' ' ')" "$(sed -n '3s/^  //p' out)"
+    expect 'lines of the recipe' 20 "$(($(wc -l <"$refused.recipe")))"
+}
+
+test_the_files_of_a_recipe_may_stand_anywhere() {
+    make_root
+    mkdir 'a folder'
+    cp "$setup" 'a folder/a setup'
+    cp "$night.recipe" 'a folder/a recipe'
+    run "$card" load 'a folder/a setup' 'a folder/a recipe'
+    expect_night
+    cd 'a folder' || exit 1
+    run "$card" load 'a setup' 'a recipe'
+    expect_night
+    ln -s 'a recipe' link
+    run "$card" load ./../'a folder/a setup' "$PWD/link"
+    expect_night
+}
+
+test_a_recipe_has_up_to_64_lines() {
+    make_root
+    expect_recipe '' 0 loaded
+    expect_recipe '1\tLSOLW' 0 "loaded
+1${tab}ASOLW 000"
+    awk 'BEGIN { for (i = 0; i < 64; i++) print "1\tLSOLW" }' >recipe
+    run "$card" load "$setup" recipe
+    expect_all 0 "$(awk 'BEGIN { print "loaded"; for (i = 1; i <= 64; i++) print i "\tASOLW 000" }')" ''
+    none="refused${tab}0${tab}14${tab}0
+  not a recipe: more than 64 lines, or a line without its zone and tab"
+    printf '1\tLSOLW' >>recipe
+    run "$card" load "$setup" recipe
+    expect_all 1 "$none" ''
+    # As many lines as a recipe of 4,096 bytes can have.
+    dd if=/dev/zero bs=4096 count=1 2>/dev/null | tr '\0' '\n' >recipe
+    run "$card" load "$setup" recipe
+    expect_all 1 "$none" ''
+    expect_recipe '\n' 1 "$none"
+    expect_recipe '1\tLSOLW\n\n' 1 "$none"
+    expect_recipe '1 LSOLW\n' 1 "$none"
+    expect_recipe '01\tLSOLW\n' 1 "$none"
+    expect_recipe '1\tLSOLW\nLSOLW' 1 "$none"
+}
+
+test_a_recipe_has_up_to_4096_bytes() {
+    make_root
+    {
+        printf '1\tSHZBG 050'
+        dd if=/dev/zero bs=4085 count=1 2>/dev/null | tr '\0' x
+    } >recipe
+    run "$card" load "$setup" recipe
+    expect 'standard error' '' "$(cat err)"
+    expect status 1 "$status"
+    expect 'the first line' "refused${tab}1${tab}8${tab}9" "$(head -n 1 out)"
+    expect 'the lengths of the lines' '13 46 4098 27' "$(awk '{ print length($0) }' out | tr '\n' ' ' | sed 's/ $//')"
+    printf x >>recipe
+    run "$card" load "$setup" recipe
+    expect_all 1 '' 'cardload: the recipe has more than 4,096 bytes'
+    make_large_log
+    run "$card" load "$setup" large
+    expect_all 1 '' 'cardload: the recipe has more than 4,096 bytes'
+}
+
+test_what_is_wrong_with_a_recipe_is_shown() {
+    make_root
+    expect_recipe '1\tLSOLW\n12\tLSOLW\n' 1 "refused${tab}2${tab}3${tab}0
+  there is no such zone
+  12 LSOLW
+     ^"
+    expect_recipe '99999\tSHZBG 050' 1 "refused${tab}1${tab}3${tab}0
+  there is no such zone
+  99999 SHZBG 050
+        ^"
+    expect_recipe '1\t' 1 "refused${tab}1${tab}7${tab}0
+  unknown command: L or S comes first, then AHUE, HZBG, RRUE or SOLW
+  1 
+    ^"
+    expect_recipe '4\tSHZBG' 1 "refused${tab}1${tab}8${tab}5
+  syntax error: wrong length, spaces or digits
+  4 SHZBG
+         ^ a space"
+    expect_recipe '1\tSSOLW 301' 1 "refused${tab}1${tab}9${tab}6
+  a figure is outside its range
+  1 SSOLW 301
+          ^ 0 to 300"
+    expect_recipe '4\tSSOLW 301\n4\tSAHUE 1 010 010 500 200\n' 1 "refused${tab}2${tab}9${tab}20
+  a figure is outside its range
+  4 SAHUE 1 010 010 500 200
+                        ^ 501 to 999"
+    expect_recipe '3\tSHZBG 050\n' 1 "refused${tab}1${tab}10${tab}0
+  the write is not permitted in this state
+  3 SHZBG 050
+    ^"
+}
+
+test_bytes_of_a_recipe_that_do_not_print_are_dots() {
+    make_root
+    expect_recipe '1\tSHZBG 050\r\n1\tLHZBG\r\n' 1 "refused${tab}1${tab}8${tab}9
+  syntax error: wrong length, spaces or digits
+  1 SHZBG 050.
+             ^ nothing more"
+    expect_recipe '1\tSHZ\000G 050\n' 1 "refused${tab}1${tab}7${tab}0
+  unknown command: L or S comes first, then AHUE, HZBG, RRUE or SOLW
+  1 SHZ.G 050
+    ^"
+    expect_recipe '1\tLHZBG\t\033\200\377\n' 1 "refused${tab}1${tab}8${tab}5
+  syntax error: wrong length, spaces or digits
+  1 LHZBG....
+         ^ nothing more"
+}
+
+test_a_setup_is_worked_on_to_its_end() {
+    make_root
+    printf '9\tLSOLW\n' >recipe
+    missing="refused${tab}1${tab}3${tab}0
+  there is no such zone
+  9 LSOLW
+    ^"
+    run "$card" load /dev/null recipe
+    expect_all 1 "$missing" ''
+    printf 'no line\n\nN\t9\t40\t300\r\nX\t9' >lines
+    run "$card" load lines recipe
+    expect_all 1 "$missing" ''
+    printf 'no line\n\nN\t9\t40\t300\nT\t9\tSSOLW 077' >lines
+    run "$card" load lines recipe
+    expect_all 0 "loaded
+1${tab}ASOLW 077" ''
+    make_large_log
+    printf 'N\t9\t40\t300\nT\t9\tSSOLW 078\n' >>large
+    run "$card" load large recipe
+    expect_all 0 "loaded
+1${tab}ASOLW 078" ''
+}
+
+test_files_that_a_recipe_lacks_are_told_before_anything_is_proved() {
+    make_root
+    run "$card" load 'no file' "$night.recipe"
+    expect_all 1 '' 'card: there is no file no file'
+    run "$card" load "$setup" 'no file'
+    expect_all 1 '' 'card: there is no file no file'
+    run "$card" load bin "$night.recipe"
+    expect_all 1 '' 'card: bin is a folder and cannot be read'
+    run "$card" load "$setup" bin
+    expect_all 1 '' 'card: bin is a folder and cannot be read'
+    run "$card" load - "$night.recipe" <&-
+    expect_all 1 '' 'card: standard input is closed'
+    expect 'calls of rt' '' "$(cat calls)"
+}
+
+test_an_unreadable_setup_or_recipe_is_told_before_anything_is_proved() {
+    [ "$(id -u)" -ne 0 ] || skip 'since root reads every file'
+    make_root
+    cp "$night.recipe" closed
+    chmod 000 closed
+    run "$card" load closed "$night.recipe"
+    expect_all 1 '' 'card: the file closed cannot be read'
+    run "$card" load "$setup" closed
+    expect_all 1 '' 'card: the file closed cannot be read'
+    expect 'calls of rt' '' "$(cat calls)"
+}
+
+test_what_fails_while_a_recipe_is_loaded_is_told() {
+    make_root
+    run "$card" load - "$night.recipe" <bin
+    expect_all 1 '' 'cardload: the log cannot be read'
+    # A recipe that is gone once the program is proved.
+    cp "$night.recipe" recipe
+    rt_does "rm \"\$stand_ins/recipe\"; $unchanged"
+    run "$card" load "$setup" recipe
+    expect_all 1 '' 'cardload: the recipe cannot be read'
+    rt_does 'echo "rt: FAILED: cardload"; exit 1'
+    run "$card" load "$setup" "$night.recipe"
+    expect status 1 "$status"
+    expect 'standard output' '' "$(cat out)"
+    rt_does "$unchanged"
+    bench_build "$here/one_call.c" "$own/target/bin/cardload" '-DCALL=_exit(7)'
+    run "$card" load "$setup" "$night.recipe"
+    expect_all 7 '' 'card: the program for recipes ended with status 7'
+}
+
+test_an_answer_that_cannot_be_written_is_no_loaded_recipe() {
+    make_root
+    for recipe in "$night" "$refused"; do
+        [ ! -c /dev/full ] || {
+            "$card" load "$setup" "$recipe.recipe" >/dev/full 2>err
+            status=$?
+            : >out
+            expect_all 1 '' 'card: the output cannot be written'
+        }
+        # Nobody reads from the pipe by the time that it is written to.
+        (
+            trap '' PIPE
+            sleep 1
+            "$card" load "$setup" "$recipe.recipe" 2>err
+            echo "$?" >status
+        ) | :
+        status=$(cat status)
+        expect_all 1 '' 'card: the output cannot be written'
+    done
+    ! is_ignored PIPE || skip 'since the signal of a closed pipe is ignored here'
+    {
+        sleep 1
+        "$card" load "$setup" "$night.recipe" 2>err
+        echo "$?" >status
+    } | :
+    status=$(cat status)
+    expect_all 141 '' ''
+}
+
+# ---- the words of the launcher
+
 test_help_is_the_usage_with_status_0() {
     make_root
     run "$card"
     cp out usage
     grep -q '^  ./card log \[FILE\] .* -$' usage || wrong "no usage: '$(cat usage)'"
     expect_all 0 "$(cat usage)" ''
-    for word in help -h --help 'log --help' 'log -h' 'say --help' 'test --help' 'bench --help'; do
+    for word in help -h --help 'log --help' 'log -h' 'say --help' 'load --help' 'test --help' 'bench --help'; do
         # shellcheck disable=SC2086
         run "$card" $word
         expect_all 0 "$(cat usage)" ''
@@ -372,6 +615,11 @@ test_wrong_words_end_with_status_2() {
     expect_all 2 '' 'card: usage: ./card say RANGE, which is 300 or 500'
     run "$card" say 300 "$day"
     expect_all 2 '' 'card: usage: ./card say RANGE, which is 300 or 500'
+    for words in '' "$setup" "$setup $day $day"; do
+        # shellcheck disable=SC2086
+        run "$card" load $words
+        expect_all 2 '' 'card: usage: ./card load SETUP RECIPE'
+    done
     run "$card" test all
     expect_all 2 '' 'card: usage: ./card test'
     run "$card" bench twice
@@ -552,6 +800,19 @@ test_a_run_that_is_ended_leaves_nothing_behind() {
     expect_the_end 143 "$?"
 }
 
+test_a_recipe_that_is_not_waited_for_leaves_nothing_behind() {
+    make_root_to_end
+    "$card" load log "$night.recipe" >out 2>err 5<&- 6>&- &
+    printf 'X\t0\n' >&6
+    await grep -q cardload calls || wrong "no check: '$(cat err)'"
+    sleep 1
+    exec 5<&-
+    kill "$!"
+    wait "$!" 2>/dev/null
+    expect_the_end 143 "$?"
+    expect 'standard output' '' "$(cat out)"
+}
+
 test_a_run_that_is_interrupted_leaves_nothing_behind() {
     ! is_ignored INT || skip 'since interrupts are ignored here'
     make_root_to_end
@@ -640,6 +901,26 @@ card: the log program and its witness in C differ
     expect status 1 "$status"
 }
 
+test_a_sample_recipe_that_is_answered_otherwise_is_told_and_counted() {
+    make_root
+    rt_does 'echo "5 passed, 0 failed"'
+    for name_of in night night-refused; do
+        cp "$root/examples/$name_of.recipe" "$own/examples/"
+        echo >>"$own/examples/$name_of.recipe"
+        run "$card" test
+        expect 'the last lines' 'card: a recipe of examples/ is not answered as its answer there says
+tests/launcher.sh ran
+bench/differential.sh ran
+5 passed, 1 failed' "$(tail -n 4 out)"
+        expect status 1 "$status"
+        cp "$root/examples/$name_of.recipe" "$own/examples/"
+    done
+    run "$card" test
+    expect_all 0 'tests/launcher.sh ran
+bench/differential.sh ran
+5 passed, 0 failed' ''
+}
+
 test_lines_of_rt_come_as_they_are_printed_but_for_the_last() {
     make_root
     rt_does 'echo "rt: one"; echo "rt: two"
@@ -671,8 +952,11 @@ test_the_program_needs_little_stack() {
 
 # ---- all of them
 
-program=$root/target/bin/cardlog speaker=$root/target/bin/cardsay
-"$root/card" log </dev/null || exit 1
+program=$root/target/bin/cardlog speaker=$root/target/bin/cardsay loader=$root/target/bin/cardload
+for words in log 'say 300' 'load /dev/null /dev/null'; do
+    # shellcheck disable=SC2086
+    "$root/card" $words </dev/null >/dev/null || exit 1
+done
 # shellcheck disable=SC2046
 [ $# -gt 0 ] || set -- $(sed -n 's/^\(test_[a-z0-9_]*\)() {$/\1/p' "$here/launcher.sh")
 passed=0 failed=0
