@@ -1,6 +1,6 @@
 -- What came of loading a recipe is in the bounds that `say_loaded` asks for, whatever was loaded. Assumes nothing.
 use Prim.Native.Nat.{ℕ, zero, suc, _+_, _-_, _*_, _≤_}
-use mathlib.Core.Path.{_≡_, refl, sym, ap, _∙_}
+use mathlib.Core.Path.{_≡_, refl, ap}
 use mathlib.Core.Bool.{Bool, true, false, cond, not, _||_}
 use mathlib.Core.List.{List, [], _∷_, _++_, map}
 use native.Mathlib.Omega.{arith}
@@ -9,7 +9,6 @@ use lib.Dec.{ltb, eqb}
 use borrow.Author.Tests.{ltb-false}
 use Rattle.zone.specs.declared.figures.Group.{Group}
 use Rattle.zone.specs.declared.figures.Group.the-variants.{Ahue, Hzbg, Rrue, Solw}
-use Rattle.zone.specs.declared.figures.Figures.{Figures}
 use Rattle.zone.specs.declared.figures.Command.the-variants.{Read, Write}
 use Rattle.zone.specs.Lists.{isZero, every, some}
 use Rattle.zone.specs.Figures.{opens}
@@ -22,7 +21,7 @@ use Rattle.wire.specs.declared.Named.the-variants.{Is, NoGroup}
 use Rattle.wire.specs.declared.Parsed.{Parsed}
 use Rattle.wire.specs.declared.Parsed.the-variants.{Known, Unknown, Syntax}
 use Rattle.line.specs.Line.{L, S, groupNamed, lineRead}
-use Rattle.line.specs.Places.{Place, nowhere, offset, told, Expected, meets, wrongFrom, expectedAs, wrongAs, namedWrong, wrongIn, outOf, outIn}
+use Rattle.line.specs.Places.{Place, nowhere, offset, told, Expected, meets, wrongFrom, expectedAs, namedWrong, wrongIn, outIn}
 use Rattle.line.proofs.OutLaws.{firstOut, out-told}
 use Rattle.roads.specs.Acknowledgements.{textReply}
 use Rattle.roads.specs.Calls.{answerText, textPlace}

@@ -1,10 +1,9 @@
 -- The lines of a recipe one at a time, and a line's zone and command. Assumes nothing.
 use Prim.Native.Nat.{ℕ, zero, suc, _+_, _-_, _*_, _≤_, _<_}
-use mathlib.Core.Path.{_≡_, refl, sym, ap, _∙_}
-use mathlib.Core.Bool.{Bool, true, false, cond}
+use mathlib.Core.Path.{_≡_, ap}
+use mathlib.Core.Bool.{true, false}
 use mathlib.Core.List.{List, [], _∷_, _++_}
 use native.Mathlib.Omega.{arith}
-use native.Mathlib.Numerals.{add-one}
 use lib.ListN.{length, take, drop, getD, length-take, length-drop, List·getD-eq-default}
 use lib.Seq.{take-all}
 use lib.Dec.{leb, eqb}
@@ -19,12 +18,11 @@ use Rattle.wire.specs.declared.Figure.the-variants.{Value, Bad}
 use Rattle.texts.specs.declared.decimals.Addressed.{Addressed}
 use Rattle.texts.specs.declared.decimals.Addressed.the-variants as addressed
 use Rattle.texts.specs.Numbers.{decimalOf}
-use Rattle.texts.specs.Texts.{lineFeed, tab, linesOf, field, onward, Zoned, to, lacking, zonedBy, zoned}
+use Rattle.texts.specs.Texts.{lineFeed, tab, linesOf, field, onward, to, lacking, zonedBy, zoned}
 use Rattle.texts.specs.Inner.{zonedSeen, startOf}
 use Rattle.texts.proofs.Parts.{by-test, next-line, no-line}
 use Rattle.saying.specs.Loading.{replyAt, numbered, repliesFrom, marked, pointedIn}
 use Rattle.saying.specs.Inner.{Appended}
-use Rattle.saying.proofs.Growing.{behind, none}
 
 -- ---- one line after the other
 

@@ -1,15 +1,14 @@
 -- What `./card load` writes of a recipe: that it was loaded, with the reply to each line, or that it was refused, and what is wrong, in words.
 use Prim.Native.Nat.{ℕ, _+_, _-_, _*_}
-use mathlib.Core.Bool.{cond, _||_}
+use mathlib.Core.Bool.{cond}
 use mathlib.Core.List.{List, [], _∷_, _++_, map}
 use lib.ListN.{length, take, drop, getD}
-use lib.Dec.{eqb}
 use Rattle.zone.specs.Lists.{isZero, ascii}
 use Rattle.card.specs.declared.records.Record.{Record}
 use Rattle.card.specs.Records.{zoneAt}
 use Rattle.texts.specs.Texts.{lineFeed, tab, linesOf, field, Zoned, to, lacking, zoned}
 use Rattle.recipes.specs.Recipes.{Loading, loadOf}
-use Rattle.saying.specs.Saying.{decimalFor, behindBlanks, meaning, printed, expectation, caret}
+use Rattle.saying.specs.Saying.{decimalFor, behindBlanks, meaning, printed, expectation, caret, carriesPlace}
 
 -- ---- a recipe that was loaded
 
@@ -41,7 +40,7 @@ shownLine zone command = map printed zone ++ (32 ∷ map printed command)
 
 -- behind the caret of an 8 or a 9 what is expected there, behind any other nothing
 abbrev pub wanted : ℕ → ℕ → List ℕ → ℕ → List ℕ
-wanted number range command place = cond (eqb number 8 || eqb number 9) (32 ∷ expectation number range command place) []
+wanted number range command place = cond (carriesPlace number) (32 ∷ expectation number range command place) []
 
 -- zone and command, and under them a caret at the place, which is counted from where the command begins
 abbrev pub marked : List ℕ → List ℕ → ℕ → ℕ → ℕ → List ℕ

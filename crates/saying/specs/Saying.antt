@@ -1,6 +1,6 @@
 -- What `./card say` writes for a line that is sent to zone 0: its answer, and for a refusal what is wrong, in words.
 use Prim.Native.Nat.{ℕ, _+_, _-_}
-use mathlib.Core.Bool.{cond, _||_}
+use mathlib.Core.Bool.{Bool, cond, _||_}
 use mathlib.Core.List.{List, [], _∷_, _++_, map}
 use lib.ListN.{length, getD, replicate}
 use lib.Dec.{ltb, eqb}
@@ -92,11 +92,15 @@ caretAt column expected = caret column (32 ∷ expected)
 abbrev pub pointed : List ℕ → ℕ → List ℕ → List ℕ
 pointed line place expected = behindBlanks (map printed line) ++ behindBlanks (caretAt place expected)
 
+-- "Answers 8 and 9 on the text road carry that place" (document 02, Req 04)
+abbrev pub carriesPlace : ℕ → Bool
+carriesPlace number = eqb number 8 || eqb number 9
+
 -- behind the answer: nothing if the call is done; for every refusal the meaning of its number; for 8 and 9 the line and what was expected
 abbrev pub explained : ℕ → ℕ → List ℕ → ℕ → List ℕ
 explained number range line place =
     cond (isZero number) []
-    (behindBlanks (meaning number) ++ cond (eqb number 8 || eqb number 9) (pointed line place (expectation number range line place)) [])
+    (behindBlanks (meaning number) ++ cond (carriesPlace number) (pointed line place (expectation number range line place)) [])
 
 pub record Said : Type 0 where
   pub output : List ℕ

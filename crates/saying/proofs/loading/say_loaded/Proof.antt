@@ -1,5 +1,5 @@
 -- Each return is the definition's side of its test.
-use mathlib.Core.Path.{_≡_, sym, _∙_}
+use mathlib.Core.Path.{sym, _∙_}
 use native.Mathlib.Omega.{arith}
 use borrow.Author.Tests.{eq-eqb, ne-eqb}
 use Rattle.saying.specs.Loading.{loadingSaid}
