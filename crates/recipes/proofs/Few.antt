@@ -276,7 +276,7 @@ module _ (r : Record) (recipe second room : List ℕ) (ends : begun recipe ≡ [
   lengths-both : lengthsBy (a ++ b) ≡ take n (lengthsBy a) ++ take (64 - n) (lengthsBy b)
   lengths-both = lengths-append a b (omega (arith, length-first, length-second)) ∙ ap (λ (m : ℕ). take m (lengthsBy a) ++ take (64 - m) (lengthsBy b)) length-first
 
-  one-behind : Behind r recipe second room (loadOf r recipe room) (loadOf between second (drop (32 * n) room)) (loadOf r (recipe ++ second) room)
+  one-behind : Behind recipe (loadOf r recipe room) (loadOf between second (drop (32 * n) room)) (loadOf r (recipe ++ second) room)
   one-behind =
       let one = one-done .comes-to in
       let two = two-done .comes-to in

@@ -1,14 +1,16 @@
 -- Where the reply to each line stands. Assumes nothing.
 use Prim.Native.Nat.{ℕ, zero, suc, _+_, _-_, _*_, _≤_, _<_}
-use mathlib.Core.Path.{_≡_, refl, ap, _∙_}
+use mathlib.Core.Path.{_≡_, refl, sym, ap, _∙_}
 use mathlib.Core.List.{List, [], _∷_, _++_, map}
 use native.Mathlib.Omega.{arith}
 use lib.ListN.{length, take, drop, getD, replicate, length-drop}
-use lib.Seq.{take-at, drop-append-add, length-take-le}
+use lib.Seq.{take-at, drop-at, drop-append-add, length-take-le}
 use Rattle.card.specs.declared.records.Record.{Record}
+use Rattle.roads.specs.Acknowledgements.{textReply}
+use Rattle.roads.specs.Calls.{textResult, answerText}
 use Rattle.texts.specs.Texts.{linesOf}
-use Rattle.recipes.specs.Recipes.{Sending, sendings, Sent, sent, inTurn, roomBy, Loading}
-use Rattle.recipes.specs.Rules.{sentSingly, RepliesStand}
+use Rattle.recipes.specs.Recipes.{Sending, sendings, Sent, sent, inTurn, roomBy, Loading, loadOf}
+use Rattle.recipes.specs.Rules.{sentSingly, EachIsSent, RepliesStand}
 use Rattle.recipes.proofs.Cases.{as-many}
 use Rattle.recipes.proofs.Told.{fine, done}
 use Rattle.recipes.proofs.Few.{drop-more, in-turn-length, sent-wide}
@@ -53,6 +55,26 @@ length-at [] zeros k d l = absurd (omega arith)
 length-at (x ∷ all) zeros zero d l = refl
 length-at (x ∷ all) zeros (suc k) d l = length-at all zeros k d (omega arith)
 
+-- behind a reply the bytes that were lent are as they were
+sent-kept : (r : Record) (x : Sending) (lent : List ℕ) → drop (sent r x lent .answered .said .length) (sent r x lent .answered .said .room) ≡ drop (sent r x lent .answered .said .length) lent
+unfolding answerText
+sent-kept r x lent =
+    let o = textResult r (x .zone) (x .command) lent in
+    let reply = textReply (o .number) (o .values) in
+    drop-at reply (drop (length reply) lent) (length reply) refl
+
+slot-kept : (r : Record) (xs : List Sending) (room : List ℕ) (k : ℕ) (d : Sent) → k < length xs
+    → drop (getD (inTurn r xs room) k d .answered .said .length) (getD (inTurn r xs room) k d .answered .said .room) ≡ drop (getD (inTurn r xs room) k d .answered .said .length) (take 32 (drop (32 * k) room))
+unfolding inTurn
+slot-kept r [] room k d l = absurd (omega arith)
+slot-kept r (x ∷ xs) room zero d l = sent-kept r x (take 32 room)
+slot-kept r (x ∷ xs) room (suc k) d l =
+    slot-kept (sent r x (take 32 room) .answered .after) xs (drop 32 room) k d (omega arith)
+    ∙ ap (λ (l : List ℕ). drop (getD (inTurn (sent r x (take 32 room) .answered .after) xs (drop 32 room)) k d .answered .said .length) (take 32 l)) (drop-more k room)
+
+pub each-sent : EachIsSent
+each-sent r recipe room w = in-turn-length r (sendings (linesOf recipe)) room ∙ as-many (linesOf recipe) (fine r recipe room w .formed)
+
 pub replies-stand : RepliesStand
 replies-stand r recipe room z =
     let t = done r recipe room z in
@@ -60,10 +82,15 @@ replies-stand r recipe room z =
     let xs = sendings (linesOf recipe) in
     let many = as-many (linesOf recipe) (f .formed) in
     let enough : 32 * length xs ≤ length room = rw many (f .enough) in
-    let count : length (sentSingly r recipe room) ≡ length (linesOf recipe) = in-turn-length r xs room ∙ many in
+    let count = each-sent r recipe room (t .form-right) in
+    let some-line = sent r (record { zone = 0; command = [] }) [] in
+    let slot : (k : ℕ) (d : Sent) → k < length (linesOf recipe) → take 32 (drop (32 * k) (loadOf r recipe room .answered .said .room)) ≡ getD (sentSingly r recipe room) k d .answered .said .room
+    = λ k d l. ap (λ (x : Loading). take 32 (drop (32 * k) (x .answered .said .room))) (t .comes-to) ∙ room-at r xs room enough k d (omega (arith, many)) in
+    let wide : (k : ℕ) (d : Sent) → k < length (linesOf recipe) → getD (loadOf r recipe room .lengths) k 0 ≡ getD (sentSingly r recipe room) k d .answered .said .length
+    = λ k d l. ap (λ (x : Loading). getD (x .lengths) k 0) (t .comes-to) ∙ length-at (sentSingly r recipe room) (replicate (64 - length (sentSingly r recipe room)) 0) k d (omega (arith, count)) in
     record {
-      one-each = count;
-      here = λ k d l. ap (λ (x : Loading). take 32 (drop (32 * k) (x .answered .said .room))) (t .comes-to) ∙ room-at r xs room enough k d (omega (arith, many));
-      length-here = λ k d l. ap (λ (x : Loading). getD (x .lengths) k 0) (t .comes-to) ∙ length-at (sentSingly r recipe room) (replicate (64 - length (sentSingly r recipe room)) 0) k d (omega (arith, count));
+      here = slot;
+      length-here = wide;
+      kept = λ k l. (λ i. drop (wide k some-line l i) (slot k some-line l i)) ∙ slot-kept r xs room k some-line (omega (arith, many)) ∙ ap (λ (n : ℕ). drop n (take 32 (drop (32 * k) room))) (sym (wide k some-line l));
       beyond = ap (λ (x : Loading). drop (32 * length (linesOf recipe)) (x .answered .said .room)) (t .comes-to) ∙ (rw many at (room-beyond r xs room enough));
     }

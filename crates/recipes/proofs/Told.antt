@@ -176,6 +176,7 @@ whole r recipe room z =
       room-left = ap (λ (x : Loading). x .answered .said .room) (d .comes-to);
       lengths-told = ap (λ (x : Loading). x .lengths) (d .comes-to);
       no-line = (ap (λ (x : Loading). x .line) (d .comes-to), ap (λ (x : Loading). x .place) (d .comes-to));
+      tells-nothing = ap (λ (x : Loading). x .answered .said .values) (d .comes-to);
     }
 
 pub loaded : (r : Record) (recipe room : List ℕ) → WellFormed r recipe room → every isDone (sentSingly r recipe room) ≡ true → loadOf r recipe room ≡ loadedWith r room (sentSingly r recipe room)
@@ -197,7 +198,7 @@ or-not-at-all r recipe room u = by-end (ends r recipe room)
     }
 
     by-end : Ends r recipe room → NotAtAll r recipe room
-    by-end (by-its-form n e) = left (form r recipe room) 0 0 e of-its-form
+    by-end (by-its-form n e) = left (form r recipe room) 0 0 e (of-its-form n)
     by-end (by-a-line k one w f n e) = left (one .answered .said .number) (suc k) (one .place) e (of-a-line k one w f)
     by-end (well-done w d e) = absurd (u (ap (λ (x : Loading). x .answered .said .number) e))
 

@@ -28,4 +28,6 @@ worked = record {
   absent = refl;
   no-command = refl;
   no-room = refl;
+  no-room-first = refl;
+  empty-line = refl;
 }

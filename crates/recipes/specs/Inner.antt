@@ -1,4 +1,4 @@
--- What the functions on the way come to. Everything here restates Recipes for such a function, without a room, and is proved equal to it; no promise of `load` cites it.
+-- What the functions on the way come to: lines as they are cut and tried, without a room, and the replies as they are put at the end. It is proved that this comes to what Recipes says; no promise of `load` cites it.
 use Prim.Native.Nat.{ℕ, suc, _-_, _≤_}
 use mathlib.Core.Bool.{cond}
 use mathlib.Core.List.{List, [], _∷_, _++_, map}

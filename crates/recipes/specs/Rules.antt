@@ -21,14 +21,14 @@ sentSingly r recipe room = inTurn r (sendings (linesOf recipe)) room
 
 -- ---- when each number is given
 
--- each number exactly where its test holds and no earlier one does, 0 exactly where none holds, and in the printed order: `load-exactly` and `load-order`, in proofs/Told.antt
+-- each number exactly where its test holds and no earlier one does, 0 exactly where none holds, and in loadOrder's order: `load-exactly` and `load-order`, in proofs/Told.antt
 abbrev pub LoadExactly : Type 0
 LoadExactly = (r : Record) (recipe room : List ℕ) → ExactlyWhen (loadRows r recipe room) (loadOf r recipe room .answered .said .number)
 
 abbrev pub LoadInOrder : Type 0
 LoadInOrder = (r : Record) (recipe room : List ℕ) → InOrder (loadRows r recipe room) loadOrder
 
--- "the first line that, sent in turn, is not answered 0": k lines stand before it
+-- the first line that, sent in turn, is not answered 0: k lines stand before it
 pub record FirstRefused (all : List Sent) (k : ℕ) (one : Sent) : Type 0 where
   pub before : List Sent
   pub behind : List Sent
@@ -37,9 +37,13 @@ pub record FirstRefused (all : List Sent) (k : ℕ) (one : Sent) : Type 0 where
   pub done : every isDone before ≡ true
   pub refused : isDone one ≡ false
 
--- 1, 2 and 14 do not apply
+-- 1, 2 and 14 do not apply: room, record and form are right, and the lines may be tried
 abbrev pub WellFormed : Record → List ℕ → List ℕ → Type 0
 WellFormed r recipe room = first (formRows r (linesOf recipe) room) ≡ 0
+
+-- then there are as many lines sent as the recipe has, so that the k-th is the k-th. `each-sent`, in proofs/Stands.antt
+abbrev pub EachIsSent : Type 0
+EachIsSent = (r : Record) (recipe room : List ℕ) → WellFormed r recipe room → length (sentSingly r recipe room) ≡ length (linesOf recipe)
 
 -- the line number, from 1, exactly where that line is the first refused, and 1, 2 and 14 do not apply; in all other cases it is 0. `line-exactly`, in proofs/Told.antt
 abbrev pub LineExactly : Type 0
@@ -56,16 +60,18 @@ pub record Whole (r : Record) (recipe room : List ℕ) : Type 0 where
   pub room-left : loadOf r recipe room .answered .said .room ≡ roomBy (sentSingly r recipe room) room
   pub lengths-told : loadOf r recipe room .lengths ≡ lengthsBy (sentSingly r recipe room)
   pub no-line : (loadOf r recipe room .line ≡ 0) × (loadOf r recipe room .place ≡ 0)
+  pub tells-nothing : loadOf r recipe room .answered .said .values ≡ []
 
 -- `whole`, in proofs/Told.antt: of a done recipe
 abbrev pub LoadsWhole : Type 0
 LoadsWhole = (r : Record) (recipe room : List ℕ) → loadOf r recipe room .answered .said .number ≡ 0 → Whole r recipe room
 
--- "Reply k stands at the start of the k-th 32 bytes of the room": there is a reply for each line; line k, from 0, leaves the k-th 32 bytes as it does sent singly, and its length is the k-th of those told; what lies behind the last is as it was
+-- "Reply k stands at the start of the k-th 32 bytes of the room": line k, from 0, leaves the k-th 32 bytes as it does sent singly, and its length is the k-th of those told; behind its reply these bytes keep their contents, and so does what lies behind the last
 pub record Stands (r : Record) (recipe room : List ℕ) : Type 0 where
-  pub one-each : length (sentSingly r recipe room) ≡ length (linesOf recipe)
   pub here : (k : ℕ) (d : Sent) → k < length (linesOf recipe) → take 32 (drop (32 * k) (loadOf r recipe room .answered .said .room)) ≡ getD (sentSingly r recipe room) k d .answered .said .room
   pub length-here : (k : ℕ) (d : Sent) → k < length (linesOf recipe) → getD (loadOf r recipe room .lengths) k 0 ≡ getD (sentSingly r recipe room) k d .answered .said .length
+  pub kept : (k : ℕ) → k < length (linesOf recipe)
+      → drop (getD (loadOf r recipe room .lengths) k 0) (take 32 (drop (32 * k) (loadOf r recipe room .answered .said .room))) ≡ drop (getD (loadOf r recipe room .lengths) k 0) (take 32 (drop (32 * k) room))
   pub beyond : drop (32 * length (linesOf recipe)) (loadOf r recipe room .answered .said .room) ≡ drop (32 * length (linesOf recipe)) room
 
 -- `replies-stand`, in proofs/Stands.antt: of a done recipe
@@ -84,7 +90,7 @@ Reports r recipe room number line place = (loadOf r recipe room .answered .said 
 
 -- why: 1, 2 or 14, before any line is tried, with line number 0; or "the first refused line's number, from 1, and answer", and its place
 pub data Because (r : Record) (recipe room : List ℕ) : Type 0 where
-  of-its-form : Reports r recipe room (first (formRows r (linesOf recipe) room)) 0 0 → Because r recipe room
+  of-its-form : (WellFormed r recipe room → ⊥) → Reports r recipe room (first (formRows r (linesOf recipe) room)) 0 0 → Because r recipe room
   of-a-line : (k : ℕ) (one : Sent) → WellFormed r recipe room → FirstRefused (sentSingly r recipe room) k one → Reports r recipe room (one .answered .said .number) (suc k) (one .place) → Because r recipe room
 
 pub record NotAtAll (r : Record) (recipe room : List ℕ) : Type 0 where
@@ -122,12 +128,12 @@ OneLineIsText = (r : Record) (recipe line : List ℕ) (zone : ℕ) (command room
 
 -- ---- one recipe behind another
 
--- "where a first recipe is empty or ends in a line feed"
+-- a recipe that is empty or ends in a line feed, so that what stands behind it begins a line
 abbrev pub EndsItsLine : List ℕ → Type 0
 EndsItsLine recipe = (recipe ≡ []) ⊎ ((front : List ℕ) × (recipe ≡ front ++ (lineFeed ∷ [])))
 
--- the first from r, the second from the record that it left, with the room behind the first's replies
-pub record Behind (r : Record) (recipe second room : List ℕ) (one two both : Loading) : Type 0 where
+-- what comes of both together, by what comes of the first and of the second
+pub record Behind (recipe : List ℕ) (one two both : Loading) : Type 0 where
   pub done : both .answered .said .number ≡ 0
   pub record-left : both .answered .after ≡ two .answered .after
   -- the first's replies, and the second's behind them
@@ -135,9 +141,9 @@ pub record Behind (r : Record) (recipe second room : List ℕ) (one two both : L
   -- the first's lengths, and the second's behind them
   pub lengths-told : both .lengths ≡ take (length (linesOf recipe)) (one .lengths) ++ take (64 - length (linesOf recipe)) (two .lengths)
 
--- `one-behind-another`, in proofs/Few.antt
+-- the first from r, the second from the record that the first left, with the room behind the first's replies; both done. `one-behind-another`, in proofs/Few.antt
 abbrev pub OneBehindAnother : Type 0
 OneBehindAnother = (r : Record) (recipe second room : List ℕ) → EndsItsLine recipe → length (linesOf recipe) + length (linesOf second) ≤ 64
     → loadOf r recipe room .answered .said .number ≡ 0
     → loadOf (loadOf r recipe room .answered .after) second (drop (32 * length (linesOf recipe)) room) .answered .said .number ≡ 0
-    → Behind r recipe second room (loadOf r recipe room) (loadOf (loadOf r recipe room .answered .after) second (drop (32 * length (linesOf recipe)) room)) (loadOf r (recipe ++ second) room)
+    → Behind recipe (loadOf r recipe room) (loadOf (loadOf r recipe room .answered .after) second (drop (32 * length (linesOf recipe)) room)) (loadOf r (recipe ++ second) room)

@@ -19,9 +19,9 @@ start = withZone emptyRecord 0 (newZone 33 300)
 abbrev pub loaded : Record
 loaded = withZone emptyRecord 0 (withFigures (withFigures (newZone 33 300) (HzbgLimit (record { time = 50 }))) (SolwSetpoint (record { setpoint = 100 })))
 
--- room for three replies
+-- room for three replies, and four bytes more; each byte of it is 7 before
 abbrev pub room : List ℕ
-room = replicate 96 0
+room = replicate 100 7
 
 abbrev pub loading : String → Loading
 loading recipe = loadOf start (ascii recipe) room
@@ -44,7 +44,7 @@ pub record Worked : Type 0 where
         number = 0;
         values = [];
         length = 0;
-        room = (ascii "QOK00" ++ replicate 27 0) ++ (ascii "AHZBG 050" ++ replicate 23 0) ++ (ascii "QOK00" ++ replicate 27 0);
+        room = (ascii "QOK00" ++ replicate 27 7) ++ (ascii "AHZBG 050" ++ replicate 23 7) ++ (ascii "QOK00" ++ replicate 27 7) ++ replicate 4 7;
       };
       after = loaded;
     };
@@ -52,9 +52,9 @@ pub record Worked : Type 0 where
     place = 0;
     lengths = 5 ∷ 9 ∷ 5 ∷ replicate 61 0;
   }
-  -- the second line is out of range, its setpoint, at byte 6 of its command; the first, which would be done, is not kept
+  -- the second line is out of range, its setpoint, at offset 6 of its command, from 0; the first, which would be done, is not kept
   pub out-of-range : loading "0\tSHZBG 050\n0\tSSOLW 301\n0\tLHZBG" ≡ refused 9 2 6
-  -- the first line stops short, at byte 7 of its command, before the second is tried
+  -- the first line stops short, at offset 7 of its command, before the second is tried
   pub stops-short : loading "0\tSHZBG 0\n0\tSSOLW 301\n" ≡ refused 8 1 7
   -- the third line has no zone: 14, although the first would be refused
   pub no-zone-in-third : loading "0\tSSOLW 301\n0\tLHZBG\nLHZBG\n" ≡ refused 14 0 0
@@ -69,3 +69,7 @@ pub record Worked : Type 0 where
   pub no-command : loading "0\t" ≡ refused 7 1 0
   -- four lines, where the room holds three replies
   pub no-room : loading "0\tLHZBG\n0\tLHZBG\n0\tLHZBG\n0\tLHZBG\n" ≡ refused 1 0 0
+  -- which comes before 14
+  pub no-room-first : loading "x\nx\nx\nx\n" ≡ refused 1 0 0
+  -- an empty line behind the last one
+  pub empty-line : loading "0\tLHZBG\n\n" ≡ refused 14 0 0

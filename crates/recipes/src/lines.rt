@@ -19,7 +19,7 @@ pub struct Cut {
     pub end: usize,
 }
 
-// How many lines there are, whether each has its zone and tab, and the first 64 of them.
+// How many lines there are, whether each has its zone and tab, and the lines themselves, if there are at most 64.
 pub struct Counted {
     pub lines: usize,
     pub formed: bool,
@@ -59,7 +59,7 @@ fn one_of_64(n: usize) -> usize
     if n < 64 { n } else { 63 }
 }
 
-// Goes through all the lines, and cuts the first 64.
+// Goes through all the lines, and cuts them out; past 64, where it is of no use, into the last place.
 pub fn survey(recipe: &[u8]) -> Counted
     ensures { λ s. ⌜ (s .lines ≡ length (linesOf (now (recipe .entry)))) × (s .formed ≡ not (some lacks (linesOf (now (recipe .entry))))) ⌝ }
     ensures { λ s. ⌜ (s .lines ≤ 64 → map (cutSeen (now (recipe .entry))) (take (s .lines) (s .cuts)) ≡ map sendingAt (linesOf (now (recipe .entry)))) ⌝ }

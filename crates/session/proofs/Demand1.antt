@@ -27,8 +27,8 @@ use Rattle.roads.specs.Acknowledgements.{textReply, frameReply}
 use Rattle.roads.specs.Calls.{Answered, tooSmall, parsedRows, answerText, holder, resultAt, inFrameReply, answerFrame}
 use Rattle.roads.proofs.Local.{text-touches}
 use Rattle.texts.specs.Texts.{linesOf}
-use Rattle.recipes.specs.Recipes.{Sending, sendings, inTurn, isDone}
-use Rattle.recipes.proofs.Told.{done}
+use Rattle.recipes.specs.Recipes.{Sending, sendings, inTurn, isDone, loadOf}
+use Rattle.recipes.proofs.Told.{done, load-refused}
 use Rattle.session.specs.Sessions.{load, Quiet, Call, inRoom, quiet, answerTo, after, Done, run, Throughout}
 use Rattle.session.specs.Changes.{Becomes, stays, written, was-reported, was-removed, was-added, was-chosen, was-rebooked, was-mended, was-loaded, Removes, removed, merged-away, merged, Adds, NotAdded, NotGiven}
 use Rattle.session.specs.Demands.{StaysEmpty, StaysRemoved, MeetsSilence, refusedSilently, PointsAt, applies, reports, removes, chooses, asks, books, ships, merges, merges-into, RemovedStaysGone}
@@ -204,6 +204,8 @@ stays-gone r n removal calls room w h =
       by-frame = λ u bytes k a.
           let nobody = found-nowhere (run gone calls) (addressIn bytes) .1 (rw a (stays-unheld (zoneAt r n .address) gone calls (removed-unheld r n removal w) u)) in
           unheld-five (run gone calls) bytes room nobody h s k;
-      by-recipe = λ u recipe lent h d. recipe-refused (run gone calls) recipe lent n (stays-removed r n removal calls w u) h d;
+      by-recipe = λ u recipe slots h.
+          let not-done = recipe-refused (run gone calls) recipe slots n (stays-removed r n removal calls w u) h in
+          (loadOf (run gone calls) recipe slots .answered .said .number, not-done, load-refused (run gone calls) recipe slots not-done);
       by-call = λ u call p. call-three (run gone calls) n call s (stays-removed r n removal calls w u) p;
     }

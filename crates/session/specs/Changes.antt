@@ -100,7 +100,7 @@ pub record Sets (r : Record) (n : ℕ) (call : Call) (z : Zone) : Type 0 where
 abbrev pub WhatIsDoneIsSet : Type 0
 WhatIsDoneIsSet = (r : Record) (call : Call) (n : ℕ) → Sets r n call (zoneAt (after r call) n)
 
--- and nothing else becomes of zone n: it stays as it is or, where it is present, gets what is written, reported or chosen, or other kilograms, or is emptied or mended; where it is absent, it may become a new zone
+-- and nothing else becomes of zone n: it stays as it is or, where it is present, gets what is written, by itself or by the lines of a recipe in turn, what is reported or chosen, or other kilograms, or is emptied or mended; where it is absent, it may become a new zone
 pub data Becomes (r : Record) (n : ℕ) (call : Call) (z : Zone) : Type 0 where
   stays : z ≡ zoneAt r n → Becomes r n call z
   written : (figures : Figures) → Writes n figures r call → zoneAt r n .present ≡ true → SetsFigures (zoneAt r n) figures z → Becomes r n call z

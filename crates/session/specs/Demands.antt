@@ -186,9 +186,9 @@ pub record Gone (r : Record) (n : ℕ) (removal : Call) (calls : List Call) (roo
   pub by-line : Throughout (NotAdded n) (after r removal) calls → (line : List ℕ) → answerText (later r removal calls) n line room ≡ refusedSilently 3 (later r removal calls) room
   pub by-frame : Throughout (NotGiven (zoneAt r n .address)) (after r removal) calls
       → (bytes : List ℕ) → shaped bytes ≡ true → addressIn bytes ≡ zoneAt r n .address → answerFrame (later r removal calls) bytes room ≡ refusedSilently 5 (later r removal calls) room
-  -- a recipe with a line to it is refused, and so none of its lines is stored (Req 01): with 3 where the lines before that one are done
-  pub by-recipe : Throughout (NotAdded n) (after r removal) calls → (recipe lent : List ℕ) → some (λ line. eqb (line .zone) n) (sendings (linesOf recipe)) ≡ true
-      → Done (later r removal calls) (inRoom (load recipe) lent) → ⊥
+  -- a recipe with a line to it is refused, in silence too, and so none of its lines is stored (Req 01); which number it gets is that of the first refused line, or 1, 2 or 14
+  pub by-recipe : Throughout (NotAdded n) (after r removal) calls → (recipe slots : List ℕ) → some (λ line. eqb (line .zone) n) (sendings (linesOf recipe)) ≡ true
+      → (number : ℕ) × (number ≡ 0 → ⊥) × (answerTo (later r removal calls) (inRoom (load recipe) slots) ≡ refusedSilently number (later r removal calls) slots)
   -- applying a command, reporting, removing once more, choosing the source, asking for the setpoint in use, booking, shipping, merging it or into it
   pub by-call : Throughout (NotAdded n) (after r removal) calls → (call : Quiet) → PointsAt n call → answerTo (later r removal calls) (quiet call) ≡ refusedSilently 3 (later r removal calls) []
 
@@ -365,11 +365,11 @@ pub record WriteStored (given : Record) (n : ℕ) (figures : Figures) (room : Li
   pub as-frame : Present given n → carriesCommand frameRoad (Write figures) ≡ true → Done given (inRoom (frame (frameOf (zoneAt given n .address) (Write figures))) room)
       → SetsOnly given n figures (after given (inRoom (frame (frameOf (zoneAt given n .address) (Write figures))) room))
 
--- from whatever record, so from any that a session leaves: "every step starts from the record just handed back" (document 01). `every-write-is-stored`, in proofs/Useless.antt
+-- from whatever record, so from any that a session leaves: "every step starts from the record just handed back" (document 01). (What the lines of a recipe set: lines-set, in Changes.antt.) `every-write-is-stored`, in proofs/Useless.antt
 abbrev pub EveryWriteIsStored : Type 0
 EveryWriteIsStored = (r : Record) (calls : List Call) (n : ℕ) (figures : Figures) (room : List ℕ) → WriteStored (run r calls) n figures room
 
--- and whatever comes after: the figures of a present zone's group stay until a done write of that group to it, its removal or merging into another or, of AHUE, the repair of its window. `stays-stored`, in proofs/Useless.antt
+-- and whatever comes after: the figures of a present zone's group stay until a done write of that group to it, by itself or in a recipe, its removal or merging into another or, of AHUE, the repair of its window. `stays-stored`, in proofs/Useless.antt
 abbrev pub StaysStored : Type 0
 StaysStored = (r : Record) (n : ℕ) (group : Group) (calls : List Call) → zoneAt r n .present ≡ true → Throughout (NotRewritten n group) r calls
     → figuresOf (zoneAt (run r calls) n) group ≡ figuresOf (zoneAt r n) group
@@ -386,7 +386,7 @@ pub record GivesNine (r : Record) (n : ℕ) (window : WindowFigures) (room : Lis
 abbrev pub ShutGivesNine : Type 0
 ShutGivesNine = (r : Record) (n : ℕ) (window : WindowFigures) (room : List ℕ) → window .end ≤ window .begin → Present r n → 32 ≤ length room → GivesNine r n window room
 
--- the room that a call may be refused for, with 1: 32 bytes, of a recipe for each line
+-- the room below which a call is refused with 1: 32 bytes, of a recipe for each line; a call that is lent none has none
 abbrev pub roomOf : Call → ℕ
 roomOf (inRoom (text zone line) room) = 32
 roomOf (inRoom (frame bytes) room) = 32

@@ -29,11 +29,14 @@ abbrev pub saidEach : List Sent → List Said
 saidEach [] = []
 saidEach (one ∷ more) = one .answered .said ∷ saidEach more
 
--- a done recipe: its lines, sent as calls, are each done, leave its record and say what it says of each
+-- a done recipe: its lines, sent as calls, leave its record, and each is done
 pub record IsItsLines (r : Record) (recipe room : List ℕ) : Type 0 where
   pub record-left : after r (inRoom (load recipe) room) ≡ run r (linesAsCalls recipe room)
   pub each-done : Throughout Done r (linesAsCalls recipe room)
+  -- what is said to each, in its own 32 bytes, is what stands in the definition of the recipe; that the recipe leaves the same there: Whole and Stands, in recipes/specs/Rules.antt
   pub said-each : answersBy after saidTo r (linesAsCalls recipe room) ≡ saidEach (sentSingly r recipe room)
+  -- "Demand 3": each may go by the other road
+  pub other-roads : Throughout (λ s call. (other : Call) × OtherRoad s call other) r (linesAsCalls recipe room)
 
 -- `is-its-lines`, in proofs/Recipes.antt
 abbrev pub LoadedIsItsLines : Type 0
