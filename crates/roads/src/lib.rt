@@ -2,7 +2,8 @@
 // either.
 //
 // The four calls (text, frame, compose_line, compose_frame) ask nothing of the caller: any record, any
-// bytes and any room may be handed in. put_text and put_frame, which the log uses, ask for a room of 32
+// bytes and any room may be handed in. The others are steps of theirs, which the log and recipes take one
+// by one, for many lines to a record that was found sound: put_text and put_frame ask for a room of 32
 // bytes. What is right is written in specs/: Calls.antt has each call's refusals as a list in document 01's order, and
 // Acknowledgements.antt what is answered on the wire.
 mod answering;
