@@ -2,29 +2,22 @@
 use Prim.Native.Nat.{ℕ, zero, suc, _*_, _/_, _≤_, _<_}
 use mathlib.Core.Path.{_≡_, refl, sym, ap, _∙_}
 use mathlib.Core.Bool.{true, false}
-use mathlib.Core.List.{List, [], _∷_}
+use mathlib.Core.List.{List, []}
 use native.Mathlib.Omega.{arith}
-use lib.ListN.{length, length-append, length-map}
+use lib.ListN.{length, length-map}
 use borrow.Author.Tests.{lt-ltb, le-ltb, eq-eqb, ne-eqb}
 use Rattle.zone.specs.Lists.{some}
-use Rattle.zone.proofs.Tests.{neither}
 use Rattle.card.specs.declared.records.Record.{Record}
 use Rattle.card.specs.Records.{sound}
-use Rattle.texts.specs.Texts.{Zoned, to, lacking, zoned, linesOf}
-use Rattle.recipes.specs.Recipes.{isLacking, lacks, sendingIn, sendings, Sent, inTurn, refusedLine, Loading, refusedWith, triedWith, loadOf}
-use Rattle.recipes.specs.Inner.{Trying, tryFrom, replyOf, repliesIn, lengthsOf}
+use Rattle.texts.specs.Texts.{to, linesOf}
+use Rattle.recipes.specs.Recipes.{lacks, sendings, Sent, inTurn, refusedLine, Loading, refusedWith, triedWith, loadOf}
+use Rattle.recipes.specs.Inner.{sendingAt, Trying, tryFrom, replyOf, repliesIn, lengthsOf}
+use Rattle.recipes.proofs.Surveys.{said-all}
 use Rattle.recipes.proofs.Sent.{shifted, Tied, tied}
 
 -- where no line lacks its zone and tab, each has something to say
-one-each : (z : Zoned) → isLacking z ≡ false → length (sendingIn z) ≡ 1
-one-each (to zone command) h = refl
-one-each lacking h = absurd (let z : _≡_ {A = ℕ} 0 1 = cc in omega arith)
-
 pub as-many : (lines : List (List ℕ)) → some lacks lines ≡ false → length (sendings lines) ≡ length lines
-as-many [] h = refl
-as-many (line ∷ lines) h =
-    let parts = neither (lacks line) (some lacks lines) h in
-    rw (length-append (sendingIn (zoned line)) (sendings lines), one-each (zoned line) (parts .0), as-many lines (parts .1)) (omega arith)
+as-many lines h = ap length (sym (said-all lines h)) ∙ length-map lines sendingAt
 
 shift-none : (m : ℕ) → shifted 0 m ≡ m
 shift-none zero = refl

@@ -14,10 +14,10 @@ use Rattle.zone.specs.declared.figures.Command.{Command}
 use Rattle.zone.specs.declared.figures.Command.the-variants.{Read, Write}
 use Rattle.zone.specs.declared.sources.Source.{Source}
 use Rattle.zone.specs.declared.zones.Zone.{Zone}
-use Rattle.zone.specs.Lists.{isZero, every}
+use Rattle.zone.specs.Lists.{every}
 use Rattle.zone.specs.Zones.{newZone, emptyZone, stateNumbered, opened}
 use Rattle.zone.specs.Rules.{SetsFigures, SetsStatus, SetsOrigin, SetsKilograms}
-use Rattle.zone.proofs.Tests.{never, both}
+use Rattle.zone.proofs.Tests.{never}
 use Rattle.zone.proofs.Mended.{by-window, not-shut}
 use Rattle.card.specs.declared.records.Record.{Record}
 use Rattle.card.specs.Answers.{Result}
@@ -41,7 +41,7 @@ use Rattle.recipes.proofs.Told.{done}
 use Rattle.session.specs.Sessions.{text, frame, composeLine, composeFrame, load, add, remove, report, apply, chooseSource, setpointInUse, book, ship, merge, repair, Call, inRoom, quiet, after, Done}
 use Rattle.session.specs.Changes.{Writes, by-apply, by-line, by-frame, Reports, reported, merged, Removes, removed, merged-away, Adds, added, Chooses, chosen, Rebooks, booked, shipped, moved-in, Repairs, repaired, writeIn, writesTo, Loads, loaded, SetsInTurn, WhatIsDoneIsSet, Becomes, stays, written, was-reported, was-removed, was-added, was-chosen, was-rebooked, was-mended, was-loaded, EveryZoneBecomes}
 use Rattle.session.proofs.Answering.{record-kept, by-done}
-use Rattle.session.proofs.Done.{Applied, LineDone, line-is-done, frame-is-done}
+use Rattle.session.proofs.Done.{Applied, LineDone, line-is-done, frame-is-done, first-done}
 use Rattle.session.proofs.InTurn.{in-turn-append}
 
 pub by-zone : (n m : ℕ) {P : Type 0} → (n ≡ m → P) → ((n ≡ m → ⊥) → P) → P
@@ -172,9 +172,9 @@ unfolding inTurn
 lines-set-all r [] room n d = refl
 lines-set-all r (line ∷ lines) room n d =
     let one = answerText r (line .zone) (line .command) (take 32 room) in
-    let parts = both (isZero (one .said .number)) (every isDone (inTurn (one .after) lines (drop 32 room))) d in
+    let parts = first-done r line lines room d in
     in-turn-append (cond (eqb (line .zone) n) (writeIn (lineRead (line .command))) []) (writesTo n lines) (zoneAt r n) (zoneAt (one .after) n) _
-    (line-sets-one r line (take 32 room) n (eqb-true (one .said .number) 0 (parts .0)))
+    (line-sets-one r line (take 32 room) n (parts .0))
     (lines-set-all (one .after) lines (drop 32 room) n (parts .1))
 
 load-sets : (r : Record) (recipe room : List ℕ) (n : ℕ) → Done r (inRoom (load recipe) room) → SetsInTurn (zoneAt r n) (writesTo n (sendings (linesOf recipe))) (zoneAt (after r (inRoom (load recipe) room)) n)
@@ -188,8 +188,8 @@ unfolding inTurn
 lines-leave r [] room n d a = refl
 lines-leave r (line ∷ lines) room n d a =
     let one = answerText r (line .zone) (line .command) (take 32 room) in
-    let parts = both (isZero (one .said .number)) (every isDone (inTurn (one .after) lines (drop 32 room))) d in
-    let w = line-is-done r (line .zone) (line .command) (take 32 room) (eqb-true (one .said .number) 0 (parts .0)) in
+    let parts = first-done r line lines room d in
+    let w = line-is-done r (line .zone) (line .command) (take 32 room) (parts .0) in
     let same : zoneAt (one .after) n ≡ zoneAt r n = text-touches r (line .zone) (line .command) (take 32 room) n (λ e. never (sym a ∙ ap (λ (m : ℕ). zoneAt r m .present) e ∙ w .present .present)) in
     lines-leave (one .after) lines (drop 32 room) n (parts .1) (ap (λ (z : Zone). z .present) same ∙ a) ∙ same
 

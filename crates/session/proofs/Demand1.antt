@@ -7,10 +7,10 @@ use lib.ListN.{length, take, drop}
 use lib.Dec.{leb, eqb}
 use borrow.Author.Tests.{eqb-true, ne-eqb, le-ltb}
 use Rattle.zone.specs.declared.zones.Zone.{Zone}
-use Rattle.zone.specs.Lists.{isZero, every, some}
+use Rattle.zone.specs.Lists.{every, some}
 use Rattle.zone.specs.Zones.{emptyZone, holds}
 use Rattle.zone.specs.Rules.{SameHead}
-use Rattle.zone.proofs.Tests.{never, both, or-true}
+use Rattle.zone.proofs.Tests.{never, or-true}
 use Rattle.card.specs.declared.records.Record.{Record}
 use Rattle.card.specs.declared.records.Found.{Found}
 use Rattle.card.specs.declared.records.Found.the-variants.{At, Nowhere}
@@ -32,7 +32,7 @@ use Rattle.recipes.proofs.Told.{done, load-refused}
 use Rattle.session.specs.Sessions.{load, Quiet, Call, inRoom, quiet, answerTo, after, Done, run, Throughout}
 use Rattle.session.specs.Changes.{Becomes, stays, written, was-reported, was-removed, was-added, was-chosen, was-rebooked, was-mended, was-loaded, Removes, removed, merged-away, merged, Adds, NotAdded, NotGiven}
 use Rattle.session.specs.Demands.{StaysEmpty, StaysRemoved, MeetsSilence, refusedSilently, PointsAt, applies, reports, removes, chooses, asks, books, ships, merges, merges-into, RemovedStaysGone}
-use Rattle.session.proofs.Done.{line-is-done}
+use Rattle.session.proofs.Done.{line-is-done, first-done}
 use Rattle.session.proofs.InTurn.{in-turn-kept}
 use Rattle.session.proofs.Changes.{becomes, sets}
 use Rattle.session.proofs.Demand3.{stays-sound}
@@ -187,8 +187,8 @@ unfolding inTurn
 lines-refused r [] room n e h d = never h
 lines-refused r (line ∷ lines) room n e h d =
     let one = answerText r (line .zone) (line .command) (take 32 room) in
-    let parts = both (isZero (one .said .number)) (every isDone (inTurn (one .after) lines (drop 32 room))) d in
-    let w = line-is-done r (line .zone) (line .command) (take 32 room) (eqb-true (one .said .number) 0 (parts .0)) in
+    let parts = first-done r line lines room d in
+    let w = line-is-done r (line .zone) (line .command) (take 32 room) (parts .0) in
     let apart : line .zone ≡ n → ⊥ = λ q. absent-here (ap (zoneAt r) q ∙ e) (w .present .present) in
     lines-refused (one .after) lines (drop 32 room) n (text-touches r (line .zone) (line .command) (take 32 room) n (λ q. apart (sym q)) ∙ e) (rw (ne-eqb (line .zone) n apart) at h) (parts .1)
 

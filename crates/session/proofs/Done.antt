@@ -2,12 +2,13 @@
 use Prim.Native.Nat.{ℕ, suc, _≤_}
 use mathlib.Core.Path.{_≡_, refl, sym, ap, _∙_}
 use mathlib.Core.Bool.{true, false, not}
-use mathlib.Core.List.{List}
-use lib.ListN.{length}
+use mathlib.Core.List.{List, _∷_}
+use lib.ListN.{length, take, drop}
 use lib.Dec.{leb, eqb}
 use borrow.Author.Tests.{ltb-false, leb-false, eqb-true, not-false}
 use Rattle.zone.specs.declared.figures.Command.{Command}
 use Rattle.zone.specs.declared.zones.Zone.{Zone}
+use Rattle.zone.specs.Lists.{isZero, every}
 use Rattle.zone.proofs.Tests.{never, both, neither}
 use Rattle.card.specs.declared.records.Record.{Record}
 use Rattle.card.specs.declared.records.Found.{Found}
@@ -29,6 +30,7 @@ use Rattle.roads.specs.Calls.{parsedRows, textResult, answerText, isNowhere, zo
 use Rattle.roads.proofs.CallLaws.{asked-text, held-right}
 use Rattle.roads.proofs.Applied.{text-applies, frame-applies}
 use Rattle.roads.proofs.Exactly.{text-exactly, frame-exactly}
+use Rattle.recipes.specs.Recipes.{Sending, inTurn, isDone}
 use Rattle.session.specs.Demands.{Present}
 
 -- what came of it is what applying the command comes to, and that is done
@@ -134,3 +136,14 @@ pub frame-done : (r : Record) (n : ℕ) (c : Command) (room : List ℕ) → Pres
     → Applied (frameResult r (frameOf (zoneAt r n .address) c) room) r n c
 unfolding answerFrame
 frame-done r n c room p k e = applied (frame-applies r n c room (p .sound-record) (p .present) (frame-is-done r (frameOf (zoneAt r n .address) c) room e .served) k) e
+
+-- ---- the lines of a recipe
+
+-- of lines that are each done the first is, and so are those behind it, from the record that it leaves
+pub first-done : (r : Record) (line : Sending) (lines : List Sending) (room : List ℕ) → every isDone (inTurn r (line ∷ lines) room) ≡ true
+    → (answerText r (line .zone) (line .command) (take 32 room) .said .number ≡ 0) × (every isDone (inTurn (answerText r (line .zone) (line .command) (take 32 room) .after) lines (drop 32 room)) ≡ true)
+unfolding inTurn
+first-done r line lines room d =
+    let one = answerText r (line .zone) (line .command) (take 32 room) in
+    let parts = both (isZero (one .said .number)) (every isDone (inTurn (one .after) lines (drop 32 room))) d in
+    (eqb-true (one .said .number) 0 (parts .0), parts .1)

@@ -7,7 +7,6 @@ use mathlib.Core.Logic.{inl}
 use lib.ListN.{take, drop}
 use borrow.Author.Tests.{eqb-true, eqb-false}
 use Rattle.zone.specs.Lists.{isZero, every}
-use Rattle.zone.proofs.Tests.{both}
 use Rattle.card.specs.declared.records.Record.{Record}
 use Rattle.card.specs.Records.{zoneAt}
 use Rattle.line.specs.Line.{lineOf}
@@ -19,6 +18,7 @@ use Rattle.recipes.proofs.Told.{load-refused, done}
 use Rattle.session.specs.Sessions.{text, frame, composeLine, composeFrame, load, Call, inRoom, quiet, after, saidTo, Done, run, answersBy, Throughout}
 use Rattle.session.specs.Recipes.{singly, linesAsCalls, saidEach, LoadedIsItsLines, countsAs, spelledOut, SameSpelledOut, SameByOtherRoad}
 use Rattle.session.specs.Demands.{OtherRoad, by-frame}
+use Rattle.session.proofs.Done.{first-done}
 use Rattle.session.proofs.Demand3.{only-lines, same-end}
 
 -- ---- the lines as calls
@@ -33,8 +33,8 @@ unfolding inTurn
 singly-done r [] room d = tt
 singly-done r (line ∷ lines) room d =
     let one = answerText r (line .zone) (line .command) (take 32 room) in
-    let parts = both (isZero (one .said .number)) (every isDone (inTurn (one .after) lines (drop 32 room))) d in
-    (eqb-true (one .said .number) 0 (parts .0), singly-done (one .after) lines (drop 32 room) (parts .1))
+    let parts = first-done r line lines room d in
+    (parts .0, singly-done (one .after) lines (drop 32 room) (parts .1))
 
 -- each is a command's line to a present zone, which has a frame too
 singly-others : (r : Record) (lines : List Sending) (room : List ℕ) → every isDone (inTurn r lines room) ≡ true → Throughout (λ s call. (other : Call) × OtherRoad s call other) r (singly lines room)
@@ -42,8 +42,8 @@ unfolding inTurn
 singly-others r [] room d = tt
 singly-others r (line ∷ lines) room d =
     let one = answerText r (line .zone) (line .command) (take 32 room) in
-    let parts = both (isZero (one .said .number)) (every isDone (inTurn (one .after) lines (drop 32 room))) d in
-    let w = only-lines r (line .zone) (line .command) (take 32 room) (inl (eqb-true (one .said .number) 0 (parts .0))) in
+    let parts = first-done r line lines room d in
+    let w = only-lines r (line .zone) (line .command) (take 32 room) (inl (parts .0)) in
     let by : (other : Call) × OtherRoad r (inRoom (text (line .zone) (lineOf (w .command))) (take 32 room)) other
     = (inRoom (frame (frameOf (zoneAt r (line .zone) .address) (w .command))) (take 32 room), by-frame (line .zone) (w .command) (take 32 room) (take 32 room) (w .present) (w .both-carry) (w .served) (w .served)) in
     (rw (w .line-is) by, singly-others (one .after) lines (drop 32 room) (parts .1))
