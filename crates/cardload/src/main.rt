@@ -7,7 +7,8 @@
 // back, is promised by `turn`. That what is handed to write is what is said of the recipe, all of it and nothing else, is
 // promised by `load`. Which bytes are read, and what write does with those that it is handed, no contract can say.
 //
-// A failure is told on standard error, and nothing is loaded. The language has no status; the launcher has one.
+// A failure is told on standard error; where the log or the recipe cannot be read, or the recipe is too long, nothing is
+// loaded. The language has no status; the launcher has one.
 use card::Record;
 ghost use mathlib.Core.Path.{_≡_};
 ghost use mathlib.Core.Bool.{false};
