@@ -1,14 +1,15 @@
 #!/bin/sh
-# The speed of the proved log program beside that of the C program of this folder, with and without the test of the
-# record's soundness that answer 2 demands.
+# The speed of the proved log program, and of loading recipes, beside that of the C programs of this folder, with and
+# without the test of the record's soundness that answer 2 demands.
 #
-#     sh bench/speed.sh PROGRAM FOLDER [ROUNDS]
+#     sh bench/speed.sh PROGRAM LOADER FOLDER [ROUNDS]
 #
-# PROGRAM is the proved program, FOLDER takes what is built and written; the logs stay there for the next time. There is
-# one of ordinary traffic, a longer one like it, and one of the longest frames. The programs take turns. A run reads the
-# log from a file and writes to /dev/null, and its time is its processor time. Ratios are of the least times: other work
-# on the machine adds to a time and never takes from it. Those of the medians stand beside them; where the two are far
-# apart the machine was busy. The outputs are compared first.
+# PROGRAM is the proved log program and LOADER the proved program that is timed for recipes; FOLDER takes what is built
+# and written; the logs stay there for the next time. There is one of ordinary traffic, a longer one like it, and one of
+# the longest frames. The recipe has 64 lines, and is loaded, or its lines are sent singly, many times over. The programs
+# take turns. A run reads from a file and writes to /dev/null, and its time is its processor time. Ratios are of the
+# least times: other work on the machine adds to a time and never takes from it. Those of the medians stand beside them;
+# where the two are far apart the machine was busy. The outputs are compared first.
 set -u
 unset CDPATH
 
@@ -16,15 +17,20 @@ here=$(cd "$(dirname "$0")" && pwd -P) || exit 1
 . "$here/../kit.sh"
 . "$here/tools.sh"
 
-[ $# -ge 2 ] || bench_fail "usage: speed.sh PROGRAM FOLDER [ROUNDS]"
-program=$1 folder=$2 rounds=${3:-40}
-[ -f "$program" ] || bench_fail "there is no program $program"
+[ $# -ge 3 ] || bench_fail "usage: speed.sh PROGRAM LOADER FOLDER [ROUNDS]"
+program=$1 loader=$2 folder=$3 rounds=${4:-40}
+for proved in "$program" "$loader"; do
+    [ -f "$proved" ] || bench_fail "there is no program $proved"
+done
 case $program in */*) ;; *) program=./$program ;; esac
+case $loader in */*) ;; *) loader=./$loader ;; esac
 
 bench_find
 mkdir -p "$folder" || exit 1
 bench_build "$here/card.c" "$folder/card-test" -DTEST_SOUND=1
 bench_build "$here/card.c" "$folder/card-plain" -DTEST_SOUND=0
+bench_build "$here/recipe.c" "$folder/recipe-test" -DTEST_SOUND=1
+bench_build "$here/recipe.c" "$folder/recipe-plain" -DTEST_SOUND=0
 bench_build "$here/logs.c" "$folder/logs"
 bench_build "$here/timed.c" "$folder/timed"
 
@@ -38,6 +44,17 @@ bench_log() { # LINES KIND [LENGTH]
             bench_fail "the log of $1 lines cannot be made"
     fi
 }
+
+# The recipe of 64 lines, all of them done, behind how often and in which way: W is whole, S singly.
+bench_recipe() { # TIMES LETTER
+    awk -v times="$1" -v letter="$2" 'BEGIN {
+        forms = split("SHZBG 232;LHZBG;SSOLW 188;LSOLW;SAHUE 1 010 020 251;LAHUE;SAHUE 1 010 020 100 162;SRRUE 1 010 020",
+            form, ";")
+        printf "%d\t%s\n", times, letter
+        for (k = 0; k < 64; k++) printf "%d\t%s\n", k % 16, form[(k + int(k / 16)) % forms + 1]
+    }' >"$folder/recipe-$2"
+}
+
 tell() { # WORDS
     printf 'bench: %s\n' "$1" >&2
 }
@@ -52,9 +69,11 @@ bench_log 4000000 bench
 large=$made
 bench_log 20000 frames 255
 longest=$made
+bench_recipe 20000 W
+bench_recipe 5000 S
 
 # The outputs first.
-tell 'the outputs of the three programs are compared'
+tell 'the outputs of the programs are compared'
 for log in "$small" "$large" "$longest"; do
     kit_run "$folder/card-test" <"$log" >"$folder/speed.c" || bench_fail "the C program with the test failed"
     kit_run "$folder/card-plain" <"$log" >"$folder/speed.plain" || bench_fail "the C program without the test failed"
@@ -62,7 +81,14 @@ for log in "$small" "$large" "$longest"; do
     cmp "$folder/speed.c" "$folder/speed.plain" && cmp "$folder/speed.c" "$folder/speed.proved" ||
         bench_fail "the outputs differ"
 done
-rm -f "$folder/speed.c" "$folder/speed.plain" "$folder/speed.proved"
+kit_run "$loader" <"$folder/recipe-W" >"$folder/speed.proved" || bench_fail "the proved program for recipes failed"
+kit_run "$loader" <"$folder/recipe-S" >"$folder/speed.singly" || bench_fail "the proved program for recipes failed"
+kit_run "$folder/recipe-test" <"$folder/recipe-W" >"$folder/speed.c" || bench_fail "recipes in C with the test failed"
+kit_run "$folder/recipe-plain" <"$folder/recipe-W" >"$folder/speed.plain" || bench_fail "recipes in C failed"
+for output in singly c plain; do
+    cmp "$folder/speed.proved" "$folder/speed.$output" || bench_fail "the replies to the recipe differ"
+done
+rm -f "$folder"/speed.*
 
 measure() { # NAME PROGRAM LOG
     bench_timed "$folder/timed" "$3" /dev/null "$2" >>"$folder/times-$1" || bench_fail "$2 failed under the clock"
@@ -80,6 +106,12 @@ while [ "$round" -lt "$rounds" ]; do
     measure longest "$program" "$longest"
     measure longest-test "$folder/card-test" "$longest"
     measure longest-plain "$folder/card-plain" "$longest"
+    [ $((round % 2)) -ne 0 ] || {
+        measure load "$loader" "$folder/recipe-W"
+        measure load-test "$folder/recipe-test" "$folder/recipe-W"
+        measure load-plain "$folder/recipe-plain" "$folder/recipe-W"
+    }
+    [ $((round % 4)) -ne 0 ] || measure singly "$loader" "$folder/recipe-S"
     round=$((round + 1))
 done
 
@@ -129,3 +161,11 @@ row longest 20000 'proved program'
 row longest-plain 20000 'C, no test'
 row longest-test 20000 'C, testing soundness'
 beside_c longest longest-plain longest-test
+printf '\nrecipes of 64 lines, loaded 20000 times; and their lines sent singly, 5000 times\n'
+row load 1280000 'proved program, loaded'
+row load-plain 1280000 'C, no test'
+row load-test 1280000 'C, testing soundness'
+row singly 320000 'proved program, singly'
+beside_c load load-plain load-test
+printf 'a recipe loaded, its lines sent singly = 1: %s\n' \
+    "$(awk -v a="$(least load 1)" -v b="$(least singly 1)" 'BEGIN { printf "%.2f", a / (4 * b) }')"

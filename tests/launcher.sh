@@ -647,10 +647,12 @@ test_each_run_is_checked_first_whatever_the_dates_say() {
     rt_does 'cp "$stand_ins/built" target/bin/cardlog; echo "rt: ok, 2 crates proved"'
     run "$card" log - <"$day"
     expect_day
+    cp "$program" "$own/target/bin/loadtime"
     run "$card" bench
     expect_all 0 'bench/speed.sh ran' ''
     expect 'calls of rt' 'check cardlog
-check cardlog' "$(cat calls)"
+check cardlog
+check loadtime' "$(cat calls)"
 }
 
 test_a_program_that_is_gone_is_built_again() {

@@ -10,6 +10,9 @@ use lib.Seq.{append-snoc, drop-drop, take-all}
 use borrow.Author.Tests.{eqb-true, ltb-true, ltb-false}
 use Rattle.bytes.specs.Bytes.{indexOf, indexAfter}
 use Rattle.texts.specs.Texts.{lineFeed, endedBehind, begunBehind, ended, begun, unended, linesOf}
+use Rattle.texts.specs.Inner.{startOf}
+use Rattle.texts.specs.declared.decimals.Addressed.{Addressed}
+use Rattle.texts.specs.declared.decimals.Addressed.the-variants.{To}
 
 pub by-test : {R : Type 0} (t : Bool) → (t ≡ true → R) → (t ≡ false → R) → R
 by-test true f g = f refl
@@ -165,3 +168,9 @@ next-line block at end h e = by-test (ltb end (length block)) (λ t. ended-here 
         let whole : take (end - at) (drop at block) ≡ drop at block = take-all (end - at) (drop at block) (rw length-drop (omega arith)) in
         let left : 0 < length (drop at block) = rw length-drop (omega arith) in
         rw (last-ended block at end (omega arith) e k, last-begun block at end (omega arith) e k, whole, no-line block (end + 1) (omega arith)) (some-left (drop at block) left)
+
+-- ---- a zone with what is for it
+
+-- what is for a zone begins within the line
+pub begins-within : {a : Addressed} {zone start n : ℕ} → startOf a ≤ n → a ≡ To zone start → start ≤ n
+begins-within h e = rw e at h

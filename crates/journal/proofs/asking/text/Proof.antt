@@ -8,7 +8,8 @@ use borrow.Rule.Slice.PartAt.{part-to-end}
 use Rattle.texts.specs.declared.decimals.Addressed.{Addressed}
 use Rattle.texts.specs.declared.decimals.Addressed.the-variants as addressed
 use Rattle.texts.specs.Texts.{tab, zoned}
-use Rattle.texts.specs.Inner.{zonedSeen, startOf}
+use Rattle.texts.specs.Inner.{zonedSeen}
+use Rattle.texts.proofs.Parts.{begins-within}
 use Rattle.journal.specs.Lines.{zonedAsks, textAsks}
 use Rattle.journal.proofs.Fields.{text-short, text-untabbed, text-zoned}
 use borrow.Author.Needs.{needs}
@@ -31,10 +32,6 @@ returns-3 c =
     let a = p .before .before .before .before .before .args in
     rw (asked (now (a .line)) (p .zone-at .result) addressed.Lacking (p .before .before .before .if1 .left) (p .before .if2 .left) (p .zone-at .ensures .0) (c .enum-told .given .1))
 
--- the command begins within the line
-begins : {a : Addressed} {zone start n : ℕ} → startOf a ≤ n → a ≡ addressed.To zone start → start ≤ n
-begins h e = rw e at h
-
 returns-4 : tie.Need-returns-4
 returns-4 c =
     let z = c .before .before .before in
@@ -53,8 +50,8 @@ text-spec =
     (λ c. search needs)
     (λ c. search needs)
     returns-3
-    (λ c. let h = begins (c .before .before .before .zone-at .ensures .1) (c .before .zone .given .1) in search needs)
-    (λ c. let h = begins (c .before .before .before .zone-at .ensures .1) (c .before .zone .given .1) in search needs)
-    (λ c. let h = begins (c .before .before .before .zone-at .ensures .1) (c .before .zone .given .1) in search needs)
+    (λ c. let h = begins-within (c .before .before .before .zone-at .ensures .1) (c .before .zone .given .1) in search needs)
+    (λ c. let h = begins-within (c .before .before .before .zone-at .ensures .1) (c .before .zone .given .1) in search needs)
+    (λ c. let h = begins-within (c .before .before .before .zone-at .ensures .1) (c .before .zone .given .1) in search needs)
     (λ c κs. search needs)
     returns-4)
