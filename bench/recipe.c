@@ -5,8 +5,13 @@
  * sixteen fresh zones gets the recipe so often, loaded whole, and the room with the last replies is written.
  *
  * Zones and lines are those of the log program of this folder. Built with TEST_SOUND=1 a recipe tests the record once, as
- * answer 2 demands; built with TEST_SOUND=0 never.
+ * answer 2 demands; built with TEST_SOUND=0 never. The lines are gone through twice: to count them and to see that each
+ * has its zone and tab, and to try them; built with CUT_ONCE=1 what the first time found is kept for the second.
  */
+
+#ifndef CUT_ONCE
+#define CUT_ONCE 0
+#endif
 
 #define main log_main
 #include "card.c"
@@ -20,18 +25,25 @@ enum {
     NO_RECIPE = 14
 };
 
-/* Where the command of a line begins, behind its zone and tab, or null. */
+/* A line: its zone, and its command, which is null if the line lacks its zone or its tab. */
+struct cut {
+    u32 zone;
+    const u8 *command, *end;
+};
+
 static const u8 *command_in(const u8 *line, const u8 *end, u32 *zone)
 {
     line = decimal(line, end, zone);
     return line && line < end && *line == '\t' ? line + 1 : 0;
 }
 
-static const u8 *end_of_line(const u8 *p, const u8 *end)
+static struct cut line_at(const u8 *p, const u8 *end)
 {
     const u8 *feed = memchr(p, '\n', (usize)(end - p));
+    struct cut line = {0, 0, feed ? feed : end};
 
-    return feed ? feed : end;
+    line.command = command_in(p, line.end, &line.zone);
+    return line;
 }
 
 /* The answer; the number of the line that was refused, or 0; and how long the reply to each line is. */
@@ -39,29 +51,25 @@ static int load(struct zone *zones, const u8 *recipe, usize size, u8 *room, usiz
                 usize *refused)
 {
     struct zone tried[ZONES];
-    struct {
-        u32 zone;
-        const u8 *start, *end;
-    } cuts[MOST];
+#if CUT_ONCE
+    struct cut cuts[MOST];
+#endif
+    struct cut line;
     u8 replies[MOST * ROOM];
-    const u8 *end = recipe + size, *p, *line_end, *command;
+    const u8 *end = recipe + size, *p;
     enum answer answer;
     usize lines = 0, k;
     int formed = 1;
-    u32 zone;
 
     *refused = 0;
     memset(lengths, 0, MOST * sizeof *lengths);
-    for (p = recipe; p < end; p = line_end + 1, lines++) {
-        line_end = end_of_line(p, end);
-        command = command_in(p, line_end, &zone);
-        if (!command) {
-            formed = 0;
-        } else if (lines < MOST) {
-            cuts[lines].zone = zone;
-            cuts[lines].start = command;
-            cuts[lines].end = line_end;
-        }
+    for (p = recipe; p < end; p = line.end + 1, lines++) {
+        line = line_at(p, end);
+        formed &= line.command != 0;
+#if CUT_ONCE
+        if (lines < MOST)
+            cuts[lines] = line;
+#endif
     }
     if (room_size / ROOM < lines)
         return NO_ROOM;
@@ -73,8 +81,13 @@ static int load(struct zone *zones, const u8 *recipe, usize size, u8 *room, usiz
         return NO_RECIPE;
 
     memcpy(tried, zones, sizeof tried);
-    for (k = 0; k < lines; k++) {
-        answer = text_road(tried, cuts[k].zone, cuts[k].start, (usize)(cuts[k].end - cuts[k].start), replies + ROOM * k,
+    for (p = recipe, k = 0; k < lines; p = line.end + 1, k++) {
+#if CUT_ONCE
+        line = cuts[k];
+#else
+        line = line_at(p, end);
+#endif
+        answer = text_road(tried, line.zone, line.command, (usize)(line.end - line.command), replies + ROOM * k,
                            &lengths[k]);
         if (answer != DONE) {
             *refused = k + 1;

@@ -31,6 +31,7 @@ bench_build "$here/card.c" "$folder/card-test" -DTEST_SOUND=1
 bench_build "$here/card.c" "$folder/card-plain" -DTEST_SOUND=0
 bench_build "$here/recipe.c" "$folder/recipe-test" -DTEST_SOUND=1
 bench_build "$here/recipe.c" "$folder/recipe-plain" -DTEST_SOUND=0
+bench_build "$here/recipe.c" "$folder/recipe-cut" -DTEST_SOUND=0 -DCUT_ONCE=1
 bench_build "$here/logs.c" "$folder/logs"
 bench_build "$here/timed.c" "$folder/timed"
 
@@ -85,7 +86,8 @@ kit_run "$loader" <"$folder/recipe-W" >"$folder/speed.proved" || bench_fail "the
 kit_run "$loader" <"$folder/recipe-S" >"$folder/speed.singly" || bench_fail "the proved program for recipes failed"
 kit_run "$folder/recipe-test" <"$folder/recipe-W" >"$folder/speed.c" || bench_fail "recipes in C with the test failed"
 kit_run "$folder/recipe-plain" <"$folder/recipe-W" >"$folder/speed.plain" || bench_fail "recipes in C failed"
-for output in singly c plain; do
+kit_run "$folder/recipe-cut" <"$folder/recipe-W" >"$folder/speed.cut" || bench_fail "recipes in C, cut once, failed"
+for output in singly c plain cut; do
     cmp "$folder/speed.proved" "$folder/speed.$output" || bench_fail "the replies to the recipe differ"
 done
 rm -f "$folder"/speed.*
@@ -110,6 +112,7 @@ while [ "$round" -lt "$rounds" ]; do
         measure load "$loader" "$folder/recipe-W"
         measure load-test "$folder/recipe-test" "$folder/recipe-W"
         measure load-plain "$folder/recipe-plain" "$folder/recipe-W"
+        measure load-cut "$folder/recipe-cut" "$folder/recipe-W"
     }
     [ $((round % 4)) -ne 0 ] || measure singly "$loader" "$folder/recipe-S"
     round=$((round + 1))
@@ -165,7 +168,9 @@ printf '\nrecipes of 64 lines, loaded 20000 times; and their lines sent singly, 
 row load 1280000 'proved program, loaded'
 row load-plain 1280000 'C, no test'
 row load-test 1280000 'C, testing soundness'
+row load-cut 1280000 'C, no test, cut once'
 row singly 320000 'proved program, singly'
 beside_c load load-plain load-test
+printf 'the proved program, C that cuts each line once, as it does itself, = 1: %s\n' "$(ratio load load-cut least)"
 printf 'a recipe loaded, its lines sent singly = 1: %s\n' \
     "$(awk -v a="$(least load 1)" -v b="$(least singly 1)" 'BEGIN { printf "%.2f", a / (4 * b) }')"

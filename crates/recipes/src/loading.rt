@@ -6,6 +6,7 @@ use crate::replying::put_replies;
 use card::Answer;
 use card::Record;
 use card::Refusal;
+use card::Verdict;
 use card::heard;
 use roads::asked_of;
 use roads::one_of_sixteen;
@@ -73,7 +74,11 @@ fn try_lines(given: Record, recipe: &[u8], lines: usize, cuts: [Cut; 64]) -> Tri
                 after: r,
             };
         }
-        if verdict.alters() {
+        // A line alters its zone by a write alone, but what `heard` promises does not say so. The write told
+        // apart spares copies of the zone.
+        if let Verdict::Writes(figures) = verdict {
+            r.zones[n] = z.with_figures(figures);
+        } else if verdict.alters() {
             r.zones[n] = verdict.after(z);
         }
         answers[count] = Told { answer: answer };

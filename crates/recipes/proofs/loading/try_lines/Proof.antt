@@ -108,18 +108,21 @@ returns c =
     let stop = ahead-stop (turn e .before .before .args .given) (all (turn e)) (t .r) (map told (take (t .count) (t .answers))) (t .count) (line-of e) (t .inv .2) (next e) (outcome d) (c .place-of .result) (comes d) (λ z. u (ap numberOf (d .before .answer .ensures) ∙ z)) place in
     (rw (d .before .answer .ensures) (sym stop), (untold (d .before .answer .result) u, t .inv .1))
 
-zone-stored : (c : tie.Joined2 Inv-loop μ-loop) → c .if2 .r ≡ outcome (c .before .before .before) .after
+-- a write stores its figures, what else alters the zone what comes of it; else the record is as it was
+zone-stored : (c : tie.At-match-came Inv-loop μ-loop) → c .match .r ≡ outcome (c .before .before) .after
 zone-stored c =
-    let d = c .before .before .before in
-    ⊎-elim (λ w. w .2 ∙ rw (w .1 .ensures)) (λ w. w .1 ∙ sym (unaltered (r d) (n d) (v d) (sym (c .before .alters .ensures) ∙ w .0 .left))) (c .if2 .came)
+    let d = c .before .before in
+    ⊎-elim (λ w. w .4 ∙ rw (w .3 .ensures) (ap (λ x. withZone (r d) (n d) (afterBy x (zoneAt (r d) (n d)))) (sym (w .1 .given .1))))
+    (⊎-elim (λ w. w .4 ∙ rw (w .3 .ensures)) (λ w. w .3 ∙ sym (unaltered (r d) (n d) (v d) (sym (w .1 .ensures) ∙ w .2 .left))))
+    (c .match .came)
 
 loop-again : tie.Need-loop-again Inv-loop μ-loop
 loop-again c =
-    let d = c .before .before .before in
+    let d = c .before .before in
     let e = cutting d in
     let t = turn e .loop in
     let answer = d .before .answer in
-    let zero : outcome d .number ≡ 0 = sym (number-is d) ∙ c .before .before .if1 .left in
+    let zero : outcome d .number ≡ 0 = sym (number-is d) ∙ c .before .if1 .left in
     let more = told-more (t .answers) (t .count) (record { answer = answer .result }) (answerBy (v d)) (answer .ensures) (omega (arith, t .inv .0, one-of-64 (e .before))) in
     let ahead = ahead-next (turn e .before .before .args .given) (all (turn e)) (t .r) (map told (take (t .count) (t .answers))) (t .count) (line-of e) (t .inv .2) (next e) (outcome d) _ (comes d) zero more in
     (length-set (t .answers) (t .count) _ ∙ t .inv .0, omega (arith, e .before .loop-test .taken), rw (zone-stored c) ahead)
@@ -155,13 +158,17 @@ try-lines-spec =
     (λ c. let h = one-of-64 (cutting (c .before) .before) in search needs)
     (λ c κs. tt)
     returns
+    (λ c. search needs)
+    (λ c κs. tt)
+    (λ c. let h = below (sixteen (c .before .before .before .before .before)) in search needs)
+    (λ c. below (sixteen (c .before .before .before .before .before)))
     (λ c κs. tt)
     (λ c κs. tt)
-    (λ c. let h = below (sixteen (c .before .before .before .before)) in search needs)
-    (λ c. below (sixteen (c .before .before .before .before)))
-    (λ c. let h = one-of-64 (cutting (c .before .before .before) .before) in search needs)
-    (λ c. one-of-64 (cutting (c .before .before .before) .before))
-    (λ c. let h = one-of-64 (cutting (c .before .before .before) .before) in search needs)
+    (λ c. let h = below (sixteen (c .before .before .before .before .before)) in search needs)
+    (λ c. below (sixteen (c .before .before .before .before .before)))
+    (λ c. let h = one-of-64 (cutting (c .before .before) .before) in search needs)
+    (λ c. one-of-64 (cutting (c .before .before) .before))
+    (λ c. let h = one-of-64 (cutting (c .before .before) .before) in search needs)
     (λ c. search needs)
     loop-again
     returns-2)
