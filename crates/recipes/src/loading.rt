@@ -74,14 +74,19 @@ fn try_lines(given: Record, recipe: &[u8], lines: usize, cuts: [Cut; 64]) -> Tri
                 after: r,
             };
         }
-        // A line alters its zone by a write alone, but what `heard` promises does not say so. The write told
-        // apart spares copies of the zone.
+        // A line alters its zone by a write alone, but what `heard` promises does not say so. With the write
+        // told apart zone and answer are copied less often.
         if let Verdict::Writes(figures) = verdict {
             r.zones[n] = z.with_figures(figures);
-        } else if verdict.alters() {
-            r.zones[n] = verdict.after(z);
+            answers[count] = Told {
+                answer: Answer::Done,
+            };
+        } else {
+            if verdict.alters() {
+                r.zones[n] = verdict.after(z);
+            }
+            answers[count] = Told { answer: answer };
         }
-        answers[count] = Told { answer: answer };
         count += 1;
     }
     Trial {

@@ -5,7 +5,8 @@ use mathlib.Core.Logic.{⊎-elim}
 use mathlib.Core.List.{List, _∷_, map}
 use native.Mathlib.Omega.{arith}
 use denote.Ref.{now}
-use lib.ListN.{length, take, drop, getD, length-set}
+use lib.ListN.{length, take, drop, getD, set, length-set}
+use Rattle.card.specs.declared.answers.Answer.{Answer}
 use Rattle.card.specs.declared.judgements.Verdict.{Verdict}
 use Rattle.card.specs.declared.records.Record.{Record}
 use Rattle.card.specs.Answers.{Result, numberOf, valuesOf}
@@ -14,6 +15,7 @@ use Rattle.card.specs.Inner.{answerBy, afterBy}
 use Rattle.card.proofs.Inner.{unaltered}
 use Rattle.roads.proofs.Judged.{one-below}
 use Rattle.recipes.specs.declared.lines.Cut.{Cut}
+use Rattle.recipes.specs.declared.replying.Told.{Told}
 use Rattle.recipes.specs.Recipes.{Sending}
 use Rattle.recipes.specs.Inner.{cutSeen, nowhere, Within, portResult, told}
 use Rattle.recipes.proofs.Turns.{came, placed, untold, Ahead, ahead-all, ahead-next, ahead-stop, ahead-over, cut-length, cut-next, told-more}
@@ -112,20 +114,28 @@ returns c =
 zone-stored : (c : tie.At-match-came Inv-loop μ-loop) → c .match .r ≡ outcome (c .before .before) .after
 zone-stored c =
     let d = c .before .before in
-    ⊎-elim (λ w. w .4 ∙ rw (w .3 .ensures) (ap (λ x. withZone (r d) (n d) (afterBy x (zoneAt (r d) (n d)))) (sym (w .1 .given .1))))
-    (⊎-elim (λ w. w .4 ∙ rw (w .3 .ensures)) (λ w. w .3 ∙ sym (unaltered (r d) (n d) (v d) (sym (w .1 .ensures) ∙ w .2 .left))))
+    ⊎-elim (λ w. w .5 ∙ rw (w .3 .ensures) (ap (λ x. withZone (r d) (n d) (afterBy x (zoneAt (r d) (n d)))) (sym (w .1 .given .1))))
+    (λ w. w .4 ∙ ⊎-elim (λ u. u .2 ∙ rw (u .1 .ensures)) (λ u. u .1 ∙ sym (unaltered (r d) (n d) (v d) (sym (w .1 .ensures) ∙ u .0 .left))) (w .2 .came))
     (c .match .came)
+
+-- and what the line is answered is kept; a write's answer is Done
+answer-kept : (c : tie.At-match-came Inv-loop μ-loop)
+    → c .match .answers ≡ set (turn (cutting (c .before .before)) .loop .answers) (turn (cutting (c .before .before)) .loop .count) (record { answer = answerBy (v (c .before .before)) })
+answer-kept c =
+    let d = c .before .before in
+    let t = turn (cutting d) .loop in
+    let keeping : Answer → List Told = λ x. set (t .answers) (t .count) (record { answer = x }) in
+    ⊎-elim (λ w. w .4 ∙ ap keeping (ap answerBy (sym (w .1 .given .1)))) (λ w. w .3 ∙ ap keeping (d .before .answer .ensures)) (c .match .came)
 
 loop-again : tie.Need-loop-again Inv-loop μ-loop
 loop-again c =
     let d = c .before .before in
     let e = cutting d in
     let t = turn e .loop in
-    let answer = d .before .answer in
     let zero : outcome d .number ≡ 0 = sym (number-is d) ∙ c .before .if1 .left in
-    let more = told-more (t .answers) (t .count) (record { answer = answer .result }) (answerBy (v d)) (answer .ensures) (omega (arith, t .inv .0, one-of-64 (e .before))) in
+    let more = told-more (t .answers) (t .count) (record { answer = answerBy (v d) }) (answerBy (v d)) refl (omega (arith, t .inv .0, one-of-64 (e .before))) in
     let ahead = ahead-next (turn e .before .before .args .given) (all (turn e)) (t .r) (map told (take (t .count) (t .answers))) (t .count) (line-of e) (t .inv .2) (next e) (outcome d) _ (comes d) zero more in
-    (length-set (t .answers) (t .count) _ ∙ t .inv .0, omega (arith, e .before .loop-test .taken), rw (zone-stored c) ahead)
+    (rw (answer-kept c) (length-set (t .answers) (t .count) _ ∙ t .inv .0), omega (arith, e .before .loop-test .taken), rw (answer-kept c, zone-stored c) ahead)
 
 returns-2 : tie.Need-returns-2 Inv-loop μ-loop
 returns-2 c =
@@ -162,12 +172,14 @@ try-lines-spec =
     (λ c κs. tt)
     (λ c. let h = below (sixteen (c .before .before .before .before .before)) in search needs)
     (λ c. below (sixteen (c .before .before .before .before .before)))
+    (λ c. let h = one-of-64 (cutting (c .before .before .before .before .before) .before) in search needs)
+    (λ c. one-of-64 (cutting (c .before .before .before .before .before) .before))
     (λ c κs. tt)
     (λ c κs. tt)
     (λ c. let h = below (sixteen (c .before .before .before .before .before)) in search needs)
     (λ c. below (sixteen (c .before .before .before .before .before)))
-    (λ c. let h = one-of-64 (cutting (c .before .before) .before) in search needs)
-    (λ c. one-of-64 (cutting (c .before .before) .before))
+    (λ c. let h = one-of-64 (cutting (c .before .before .before .before) .before) in search needs)
+    (λ c. one-of-64 (cutting (c .before .before .before .before) .before))
     (λ c. let h = one-of-64 (cutting (c .before .before) .before) in search needs)
     (λ c. search needs)
     loop-again
