@@ -32,6 +32,8 @@ bench_find
 mkdir -p "$folder" || exit 1
 bench_build "$here/card.c" "$folder/card-test" -DTEST_SOUND=1
 bench_build "$here/logs.c" "$folder/logs"
+# It stands on card.c, and is run by speed.sh alone.
+bench_build "$here/recipe.c" "$folder/recipe-test" -DTEST_SOUND=1
 log=$folder/log.in proved=$folder/log.proved c=$folder/log.c
 
 # Runs both programs on the log.

@@ -648,8 +648,9 @@ test_each_run_is_checked_first_whatever_the_dates_say() {
     run "$card" log - <"$day"
     expect_day
     cp "$program" "$own/target/bin/loadtime"
+    printf 'echo "bench/speed.sh $*"\n' >"$own/bench/speed.sh"
     run "$card" bench
-    expect_all 0 'bench/speed.sh ran' ''
+    expect_all 0 "bench/speed.sh $own/target/bin/cardlog $own/target/bin/loadtime $own/target/bench" ''
     expect 'calls of rt' 'check cardlog
 check cardlog
 check loadtime' "$(cat calls)"

@@ -1,22 +1,16 @@
--- Each line ends within the recipe, and the room keeps its length.
-use Prim.Native.Nat.{ℕ, _-_, _≤_}
+-- The rounds are counted, and the room keeps its length.
+use Prim.Native.Nat.{_-_}
 use mathlib.Core.Path.{_≡_}
-use native.Mathlib.Omega.{arith}
-use denote.Ref.{now}
 use lib.ListN.{length}
-use Rattle.texts.proofs.Parts.{end-within}
 use borrow.Author.Needs.{needs}
 use Rattle.loadtime.proofs.singly.Statement.{statement}
 use Rattle.loadtime.proofs.singly.Tie as tie
 
 abbrev Inv-loop : tie.InvT-loop
-Inv-loop recipe room₀ r₀ at₀ k₀ room r at k = (k ≤ 64) × (length room ≡ 2048)
+Inv-loop count recipe room₀ sent₀ i₀ room sent i = length room ≡ 2048
 
 abbrev μ-loop : tie.MeasureT-loop
-μ-loop recipe room₀ r₀ at₀ k₀ room r at k = 64 - k
-
-within : (c : tie.After-line-end Inv-loop μ-loop) → c .line-end .result ≤ length (now (c .before .before .before .before .before .before .args .recipe))
-within c = end-within _ (c .before .before .before .loop .at) (c .line-end .result) (omega arith) (c .line-end .ensures)
+μ-loop count recipe room₀ sent₀ i₀ room sent i = count - i
 
 pub singly-spec : {M : Type 1} → statement M
 singly-spec =
@@ -24,19 +18,9 @@ singly-spec =
     (tie.spec
     Inv-loop
     μ-loop
-    (λ c. search needs)
-    (λ c. search needs)
-    (λ c. search needs)
     (λ c κs. search needs)
     (λ c. search needs)
-    (λ c. search needs)
-    (λ c. let h = within c in search needs)
-    (λ c. search needs)
-    (λ c. search needs)
-    (λ c. search needs)
-    (λ c. search needs)
     (λ c κs. search needs)
-    (λ c. let h = within (c .before .before .before .before .before) in search needs)
     (λ c. search needs)
     (λ c. search needs)
     (λ c. search needs)
