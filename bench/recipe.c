@@ -119,7 +119,7 @@ int main(void)
     if (!recipe || end - recipe < 2)
         return 1;
     recipe += 2;
-    memset(room, '\n', sizeof room);
+    memset(room, ' ', sizeof room);
     for (u32 z = 0; z < ZONES; z++)
         add(zones, z, z + 1, 300);
     for (u32 i = 0; i < rounds; i++) {

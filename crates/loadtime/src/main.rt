@@ -139,9 +139,9 @@ fn run(input: &mut [u8], room: &mut [u8])
     do_as_told(&input[0..count], room);
 }
 
-// The room is full of line feeds, so that it can be read with the replies in it.
+// The room is full of blanks, so that it can be read with the replies in it.
 fn main() {
     let mut input = [0u8; 4096];
-    let mut room = [10u8; 2048];
+    let mut room = [32u8; 2048];
     run(&mut input, &mut room);
 }

@@ -10,6 +10,6 @@ main-spec =
     tie.close
     (tie.spec
     (λ c. sym (length-replicate {A = ℕ} 4096 0))
-    (λ c. sym (length-replicate {A = ℕ} 2048 10))
-    (λ c κs. length-replicate {A = ℕ} 2048 10)
+    (λ c. sym (length-replicate {A = ℕ} 2048 32))
+    (λ c κs. length-replicate {A = ℕ} 2048 32)
     (λ c. tt))

@@ -1,12 +1,11 @@
 -- The lengths are counted.
-use Prim.Native.Nat.{_-_}
-use mathlib.Core.Path.{_≡_, refl}
+use Prim.Native.Nat.{_-_, _≤_}
 use borrow.Author.Needs.{needs}
 use Rattle.loadtime.proofs.mix.Statement.{statement}
 use Rattle.loadtime.proofs.mix.Tie as tie
 
 abbrev Inv-loop : tie.InvT-loop
-Inv-loop before lengths mixed₀ k₀ mixed k = k ≡ k
+Inv-loop before lengths mixed₀ k₀ mixed k = k ≤ 64
 
 abbrev μ-loop : tie.MeasureT-loop
 μ-loop before lengths mixed₀ k₀ mixed k = 64 - k
@@ -17,10 +16,10 @@ mix-spec =
     (tie.spec
     Inv-loop
     μ-loop
-    (λ c. refl)
     (λ c. search needs)
     (λ c. search needs)
     (λ c. search needs)
     (λ c. search needs)
-    (λ c. refl)
+    (λ c. search needs)
+    (λ c. search needs)
     (λ c. search needs))
