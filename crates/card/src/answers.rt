@@ -5,7 +5,7 @@ ghost use Rattle.card.specs.Answers.{refusal_number, number_of};
 use zone::Figures;
 
 // Why a call is refused, in the order of the numbers.
-#[derive(Drop)]
+#[derive(Clone, Copy)]
 pub enum Refusal {
     NoRoom,
     NotSound,
@@ -26,7 +26,7 @@ pub enum Refusal {
     SameZone,
 }
 
-#[derive(Drop)]
+#[derive(Clone, Copy)]
 pub enum Answer {
     Done,
     Told(Figures),

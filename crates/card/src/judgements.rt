@@ -11,14 +11,14 @@ use zone::{
 };
 
 // What a road brings to a zone: a command, or the refusal that its bytes met with.
-#[derive(Drop)]
+#[derive(Clone, Copy)]
 pub enum Asked {
     Sent(Command),
     Failed(Refusal),
 }
 
 // What a zone decides: it refuses, or it tells figures, or it is altered.
-#[derive(Drop)]
+#[derive(Clone, Copy)]
 pub enum Verdict {
     Refuses(Refusal),
     Tells(Figures),

@@ -4,6 +4,8 @@
 // caller: any record and any numbers may be handed in, and what is wrong is refused by its number.
 // What is right is written in specs/: Calls.antt has each call's refusals as a list in the order of
 // documents 01 and 02.
+#![tactic(auto)]
+
 mod answers;
 mod judgements;
 mod records;

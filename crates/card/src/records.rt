@@ -13,46 +13,46 @@ use crate::judgements::{
 };
 use zone::{Command, Source, Zone, more_in_range};
 
-#[derive(Drop)]
+#[derive(Clone, Copy)]
 pub struct Record {
     pub zones: [Zone; 16],
 }
 
 // Where an address is held.
-#[derive(Drop)]
+#[derive(Clone, Copy)]
 pub enum Found {
     At(usize),
     Nowhere,
 }
 
 // What stands at a zone number: a present zone of a sound record, or why there is none.
-#[derive(Drop)]
+#[derive(Clone, Copy)]
 pub enum Reached {
     There(Zone),
     Stopped(Refusal),
 }
 
-#[derive(Drop)]
+#[derive(Clone, Copy)]
 pub struct Outcome {
     pub answer: Answer,
     pub after: Record,
 }
 
 // A zone whose window did not open before it closed, and the end that it had.
-#[derive(Drop)]
+#[derive(Clone, Copy)]
 pub struct OldEnd {
     pub zone: usize,
     pub end: u32,
 }
 
 // As many of the sixteen are told as `count` says, in rising order of the zones; the others are zeros.
-#[derive(Drop)]
+#[derive(Clone, Copy)]
 pub struct OldEnds {
     pub count: usize,
     pub ends: [OldEnd; 16],
 }
 
-#[derive(Drop)]
+#[derive(Clone, Copy)]
 pub struct Repaired {
     pub outcome: Outcome,
     pub told: OldEnds,

@@ -9,6 +9,8 @@
 //
 // A failure is told on standard error; where the log or the recipe cannot be read, or the recipe is too long, nothing is
 // loaded. The language has no status; the launcher has one.
+#![tactic(auto)]
+
 ghost use Rattle.std.specs.Prelude.{◌≡◌, false, ◌≤◌, length, take};
 ghost use Rattle.saying.specs.Loading.{load_said};
 ghost use Rattle.cardload.specs.Turns.{Leaves, Turned, count_of};
@@ -16,7 +18,7 @@ ghost use Rattle.cardload.specs.Turns.{Leaves, Turned, count_of};
 use card::Record;
 
 // What is kept between two blocks of the log, whether to go on, and whether every read was done.
-#[derive(Drop)]
+#[derive(Clone, Copy)]
 struct Between {
     after: Record,
     held: usize,
@@ -25,7 +27,7 @@ struct Between {
 }
 
 // How many bytes were read, or that a read failed.
-#[derive(Drop)]
+#[derive(Clone, Copy)]
 enum Taken {
     Bytes(usize),
     Failed,

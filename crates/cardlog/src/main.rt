@@ -8,13 +8,15 @@
 // docs/PROMISES.md says how that is tested.
 //
 // A failure is told on standard error. The language has no status; the launcher has one.
+#![tactic(auto)]
+
 ghost use Rattle.std.specs.Prelude.{◌≡◌, false, ◌&&◌, ◌≤◌, length, take};
 ghost use Rattle.cardlog.specs.Turns.{Leaves, Turned};
 
 use card::Record;
 
 // What is kept between two blocks, how many bytes of output were handed to write, and whether to go on.
-#[derive(Drop)]
+#[derive(Clone, Copy)]
 struct Between {
     after: Record,
     held: usize,
@@ -23,7 +25,7 @@ struct Between {
 }
 
 // How many bytes were handed to write, and whether all of them went out.
-#[derive(Drop)]
+#[derive(Clone, Copy)]
 struct Written {
     handed: usize,
     whole: bool,

@@ -7,6 +7,8 @@
 //
 // The zone's temperature range is the program's one argument. A failure is told on standard error; the launcher has a
 // status for it.
+#![tactic(auto)]
+
 ghost use Rattle.std.specs.Prelude.{◌≡◌, ◌≤◌, length, take};
 ghost use Rattle.cardsay.specs.Turns.{Said, Hears};
 
@@ -14,7 +16,7 @@ use card::Record;
 
 // What is kept between two bytes: the record, how many bytes of the line under way are held, and whether to go on;
 // and how many bytes of output were handed to write.
-#[derive(Drop)]
+#[derive(Clone, Copy)]
 struct Between {
     after: Record,
     held: usize,
@@ -23,7 +25,7 @@ struct Between {
 }
 
 // How many bytes were handed to write, and whether all of them went out.
-#[derive(Drop)]
+#[derive(Clone, Copy)]
 struct Written {
     handed: usize,
     whole: bool,

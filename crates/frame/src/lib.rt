@@ -2,6 +2,8 @@
 //
 // It knows commands and no record. specs/Frame.antt says what the frame of a command is; proofs/Round.antt
 // proves that it is read back as that command to that address, and that nothing else is read as one.
+#![tactic(auto)]
+
 mod reading;
 mod sums;
 mod writing;

@@ -12,7 +12,7 @@ use zone::{
 };
 
 // No frame; a frame whose checksum differs, with its address; a request, with its address.
-#[derive(Drop)]
+#[derive(Clone, Copy)]
 pub enum Framed {
     NoFrame,
     BadSum(u8),

@@ -9,7 +9,7 @@ use texts::{Addressed, Count, Numeral, behind_tab, unhex, zone_at};
 use wire::Parsed;
 
 // The letters N, X, M, T and F, and every other line; a command or a frame has been read.
-#[derive(Drop)]
+#[derive(Clone, Copy)]
 pub enum Entry {
     Add(usize, u32, u32),
     Remove(usize),
@@ -20,7 +20,7 @@ pub enum Entry {
 }
 
 // Three decimals, if they are there.
-#[derive(Drop)]
+#[derive(Clone, Copy)]
 enum Triple {
     Are(u32, u32, u32),
     Bad,

@@ -10,7 +10,7 @@ use card::{Found, Record};
 use texts::{digit_values, line_end};
 
 // The record after the lines that were answered, where they end, and how much output there is.
-#[derive(Drop)]
+#[derive(Clone, Copy)]
 struct Done {
     after: Record,
     taken: usize,
@@ -18,7 +18,7 @@ struct Done {
 }
 
 // What is kept until more of the input comes, and how much output there is.
-#[derive(Drop)]
+#[derive(Clone, Copy)]
 pub struct Kept {
     pub after: Record,
     pub held: usize,

@@ -14,7 +14,7 @@ use roads::{asked_of, is_missing, one_of_sixteen};
 use zone::Zone;
 
 // The address that is to be looked up.
-#[derive(Drop)]
+#[derive(Clone, Copy)]
 pub enum Sought {
     Nobody,
     Address(u32),

@@ -8,7 +8,7 @@ use crate::reading::named;
 use wire::Named;
 use zone::Group;
 
-#[derive(Drop)]
+#[derive(Clone, Copy)]
 pub enum Expects {
     Space,
     Digit,

@@ -4,7 +4,7 @@ ghost use Rattle.line.specs.Field.{field_of};
 ghost use Rattle.line.specs.Inner.{digits_read, figure_read};
 
 // What stands where digits should: the number that they make, or where they are wrong.
-#[derive(Drop)]
+#[derive(Clone, Copy)]
 pub enum Judged {
     Value(u32),
     Wrong(usize),

@@ -14,7 +14,7 @@ use zone::{
 };
 
 // What a line is found to be, and the offset of what is wrong in it: 0 unless it is a syntax error.
-#[derive(Drop)]
+#[derive(Clone, Copy)]
 pub struct Reading {
     pub parsed: Parsed,
     pub place: usize,
@@ -56,7 +56,7 @@ pub fn named(part: &[u8]) -> Named
 }
 
 // Flag, lower and upper limit, with which three of the rows begin; or where one of them is wrong.
-#[derive(Drop)]
+#[derive(Clone, Copy)]
 enum Limits {
     Are(u32, u32, u32),
     Wrong(usize),

@@ -5,13 +5,15 @@
 // recipe, of at most 64 lines. It promises nothing: what is timed is proved in the crates below, and bench/speed.sh
 // compares what is written with what a program in C writes. All that a call hands back is used, so that none of it can
 // be left out: the record by the next call, the replies by the last write, the lengths by the room's last byte.
+#![tactic(auto)]
+
 ghost use Rattle.std.specs.Prelude.{◌≡◌, length};
 
 use card::Record;
 use texts::{Addressed, line_end, zone_at};
 
 // The record, and what has become of the lengths of all replies so far.
-#[derive(Drop)]
+#[derive(Clone, Copy)]
 struct Sent {
     after: Record,
     mixed: usize,

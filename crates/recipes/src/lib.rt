@@ -2,6 +2,8 @@
 //
 // The call, load, asks nothing of the caller: any record, any bytes and any room may be handed in.
 // What is right is written in specs/Recipes.antt.
+#![tactic(auto)]
+
 mod lines;
 mod loading;
 mod replying;

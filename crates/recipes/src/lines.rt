@@ -8,7 +8,7 @@ ghost use Rattle.recipes.specs.Inner.{sending_at, whom_seen, cut_seen, nowhere, 
 use texts::{Addressed, line_end, zone_at};
 
 // The zone that a line is for, and where in the recipe its command stands.
-#[derive(Drop)]
+#[derive(Clone, Copy)]
 pub struct Cut {
     pub zone: usize,
     pub start: usize,
@@ -16,7 +16,7 @@ pub struct Cut {
 }
 
 // How many lines there are, whether each has its zone and tab, and the lines themselves, if there are at most 64.
-#[derive(Drop)]
+#[derive(Clone, Copy)]
 pub struct Counted {
     pub lines: usize,
     pub formed: bool,
@@ -24,7 +24,7 @@ pub struct Counted {
 }
 
 // Whether a line has its zone and tab, which zone it is for, and where its command begins.
-#[derive(Drop)]
+#[derive(Clone, Copy)]
 struct Whom {
     formed: bool,
     zone: usize,

@@ -12,7 +12,7 @@ use roads::{asked_of, one_of_sixteen, place_of};
 
 // What a recipe is answered; the number of the line that was refused, from 1, and the place in its
 // command; how long the reply to each line is; and the record.
-#[derive(Drop)]
+#[derive(Clone, Copy)]
 pub struct Loaded {
     pub answer: Answer,
     pub line: usize,
@@ -22,7 +22,7 @@ pub struct Loaded {
 }
 
 // What came of trying the lines: how many were done, and what each was answered.
-#[derive(Drop)]
+#[derive(Clone, Copy)]
 struct Trial {
     answer: Answer,
     line: usize,

@@ -6,7 +6,7 @@ use card::Answer;
 use roads::put_text;
 
 // What one line is answered.
-#[derive(Drop)]
+#[derive(Clone, Copy)]
 pub struct Told {
     pub answer: Answer,
 }

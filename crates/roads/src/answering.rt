@@ -6,7 +6,7 @@ ghost use Rattle.roads.specs.Acknowledgements.{text_of, function_of, reply_to, i
 
 use card::{Answer, Refusal};
 
-#[derive(Drop)]
+#[derive(Clone, Copy)]
 pub enum Acknowledgement {
     Okay,
     CommandError,
@@ -16,7 +16,7 @@ pub enum Acknowledgement {
 }
 
 // What a refusal is answered with on the wire.
-#[derive(Drop)]
+#[derive(Clone, Copy)]
 pub enum Reply {
     Nothing,
     Acknowledges(Acknowledgement),

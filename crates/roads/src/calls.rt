@@ -11,7 +11,7 @@ use line::Reading;
 use wire::Parsed;
 
 // What a call answers, how long its reply is, and where a line is wrong: 0 unless the answer is 8 or 9.
-#[derive(Drop)]
+#[derive(Clone, Copy)]
 pub struct Replied {
     pub answer: Answer,
     pub length: usize,

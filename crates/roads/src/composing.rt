@@ -5,7 +5,7 @@ ghost use Rattle.roads.specs.Calls.{composed_seen, composed_line, composed_frame
 use card::{Answer, Refusal};
 use zone::Command;
 
-#[derive(Drop)]
+#[derive(Clone, Copy)]
 pub struct Composed {
     pub answer: Answer,
     pub length: usize,

@@ -6,6 +6,8 @@
 // by one, for many lines to a record that was found sound: put_text and put_frame ask for a room of 32
 // bytes. What is right is written in specs/: Calls.antt has each call's refusals as a list in document 01's order, and
 // Acknowledgements.antt what is answered on the wire.
+#![tactic(auto)]
+
 mod answering;
 mod calls;
 mod composing;

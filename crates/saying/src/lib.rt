@@ -3,6 +3,8 @@
 //
 // specs/Saying.antt says what is written for a line; `say` sends the line by the text road and writes it.
 // specs/Loading.antt says what is written of a recipe; `say_loaded` writes it.
+#![tactic(auto)]
+
 mod loading;
 mod saying;
 mod writing;

@@ -13,7 +13,7 @@ use card::Record;
 use wire::Parsed;
 use zone::{Command, Figures, Ranged};
 
-#[derive(Drop)]
+#[derive(Clone, Copy)]
 pub struct Shown {
     pub after: Record,
     pub filled: usize,

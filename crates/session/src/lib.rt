@@ -6,3 +6,4 @@
 // what of bookings, specs/Recipes.antt what of recipes and, over specs/Inputs.antt, specs/Order.antt what
 // of the order of sending and specs/Neighbours.antt what of the traffic of other zones. Above each
 // statement stands the file of its proof.
+#![tactic(auto)]

@@ -8,14 +8,14 @@ use line::Judged;
 use wire::Figure;
 
 // A decimal, and the index behind it.
-#[derive(Drop)]
+#[derive(Clone, Copy)]
 pub enum Numeral {
     Is(u32, usize),
     Bad,
 }
 
 // A zone, and the index behind its tab, where what is for it begins.
-#[derive(Drop)]
+#[derive(Clone, Copy)]
 pub enum Addressed {
     To(usize, usize),
     Lacking,

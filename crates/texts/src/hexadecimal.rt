@@ -5,7 +5,7 @@ ghost use Rattle.texts.specs.Numbers.{bytes_read, in_hex, hex_digit};
 ghost use Rattle.texts.specs.Inner.{digit_values, counted, count_of};
 
 // How many bytes the digits made.
-#[derive(Drop)]
+#[derive(Clone, Copy)]
 pub enum Count {
     Of(usize),
     Bad,

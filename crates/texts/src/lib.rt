@@ -1,6 +1,8 @@
 // Decimals, hexadecimal digits and the lines of a text: what the log shares with whatever else reads lines.
 //
 // specs/Numbers.antt says what the digits are, specs/Texts.antt what the lines of a text are, and the fields of a line.
+#![tactic(auto)]
+
 mod decimals;
 mod hexadecimal;
 mod lines;

@@ -3,13 +3,15 @@
 // specs/Road.antt says once for both roads how a command stands in bytes; a road adds how wide a
 // figure is and how it is written and read. proofs/Layouts.antt proves once for both that what was
 // written is read, and that nothing else is.
+#![tactic(auto)]
+
 ghost use Rattle.std.specs.Prelude.{◌≡◌, ◌+◌, ◌≤◌, length};
 ghost use Rattle.wire.specs.Room.{placed};
 
 use zone::{Command, Group};
 
 // What a line, or the body of a frame, is found to be.
-#[derive(Drop)]
+#[derive(Clone, Copy)]
 pub enum Parsed {
     Known(Command),
     Unknown,
@@ -17,14 +19,14 @@ pub enum Parsed {
 }
 
 // What stands where a figure should.
-#[derive(Drop)]
+#[derive(Clone, Copy)]
 pub enum Figure {
     Value(u32),
     Bad,
 }
 
 // The group that a name or an index byte names.
-#[derive(Drop)]
+#[derive(Clone, Copy)]
 pub enum Named {
     Is(Group),
     NoGroup,

@@ -5,7 +5,7 @@ ghost use Rattle.zone.specs.Lists.{within};
 ghost use Rattle.zone.specs.Inner.{five, five_fit};
 ghost use Rattle.zone.specs.Zones.{lockable};
 
-#[derive(Drop)]
+#[derive(Clone, Copy)]
 pub enum Group {
     Ahue,
     Hzbg,
@@ -13,7 +13,7 @@ pub enum Group {
     Solw,
 }
 
-#[derive(Drop)]
+#[derive(Clone, Copy)]
 pub struct DeadlineFigures {
     pub flag: u32,
     pub lower: u32,
@@ -21,7 +21,7 @@ pub struct DeadlineFigures {
     pub time: u32,
 }
 
-#[derive(Drop)]
+#[derive(Clone, Copy)]
 pub struct WindowFigures {
     pub flag: u32,
     pub lower: u32,
@@ -30,25 +30,25 @@ pub struct WindowFigures {
     pub end: u32,
 }
 
-#[derive(Drop)]
+#[derive(Clone, Copy)]
 pub struct LimitFigures {
     pub time: u32,
 }
 
-#[derive(Drop)]
+#[derive(Clone, Copy)]
 pub struct ReferenceFigures {
     pub flag: u32,
     pub lower: u32,
     pub upper: u32,
 }
 
-#[derive(Drop)]
+#[derive(Clone, Copy)]
 pub struct SetpointFigures {
     pub setpoint: u32,
 }
 
 // The figures of a group, in one of the table's forms.
-#[derive(Drop)]
+#[derive(Clone, Copy)]
 pub enum Figures {
     AhueDeadline(DeadlineFigures),
     AhueWindow(WindowFigures),
@@ -57,7 +57,7 @@ pub enum Figures {
     SolwSetpoint(SetpointFigures),
 }
 
-#[derive(Drop)]
+#[derive(Clone, Copy)]
 pub enum Command {
     Read(Group),
     Write(Figures),
@@ -78,7 +78,7 @@ impl Group {
 }
 
 // A figure with its range.
-#[derive(Drop)]
+#[derive(Clone, Copy)]
 pub struct Ranged {
     pub number: u32,
     pub lowest: u32,

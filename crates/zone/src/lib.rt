@@ -3,6 +3,8 @@
 // A zone goes in by value and comes back by value; no function here knows of another zone. What is
 // right is written in specs/: Table.antt has document 01's table of command groups, Figures.antt when a
 // group's figures are in range, Sources.antt who sets the temperature, Zones.antt the zone itself.
+#![tactic(auto)]
+
 mod bookings;
 mod figures;
 mod sources;

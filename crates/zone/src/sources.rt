@@ -2,14 +2,14 @@
 ghost use Rattle.std.specs.Prelude.{◌≡◌, ◌≤◌};
 ghost use Rattle.zone.specs.Sources.{input_in_range, is_interface, is_new, by_voltage};
 
-#[derive(Drop)]
+#[derive(Clone, Copy)]
 pub enum Source {
     Interface,
     Voltage,
 }
 
 // Where a zone's setpoint in use comes from: the chosen source, and the voltage at its input.
-#[derive(Drop)]
+#[derive(Clone, Copy)]
 pub struct Origin {
     pub source: Source,
     pub millivolts: u32,

@@ -4,7 +4,7 @@ ghost use Rattle.zone.specs.Zones.{state_numbered, is_off, locks, actual_in_rang
 
 use crate::figures::Group;
 
-#[derive(Drop)]
+#[derive(Clone, Copy)]
 pub enum State {
     Off,
     On,
@@ -12,7 +12,7 @@ pub enum State {
     Error,
 }
 
-#[derive(Drop)]
+#[derive(Clone, Copy)]
 pub struct Status {
     pub state: State,
     pub actual: u32,

@@ -12,21 +12,21 @@ use crate::sources::{Origin, Source, by_voltage, input_in_range};
 use crate::status::{State, Status, actual_in_range};
 
 // The heating watch: a deadline or a window, each with its own figures.
-#[derive(Drop)]
+#[derive(Clone, Copy)]
 pub enum Watch {
     Deadline(DeadlineFigures),
     Window(WindowFigures),
 }
 
 // What is written besides the heating watch.
-#[derive(Drop)]
+#[derive(Clone, Copy)]
 pub struct Settings {
     pub limit: LimitFigures,
     pub reference: ReferenceFigures,
     pub setpoint: SetpointFigures,
 }
 
-#[derive(Drop)]
+#[derive(Clone, Copy)]
 pub struct Zone {
     pub present: bool,
     pub address: u32,

@@ -7,9 +7,7 @@ use Rattle.zone.specs.declared.figures.Figures.{Figures}
 use Rattle.zone.specs.declared.figures.Figures.TheVariants.{AhueDeadline, AhueWindow, HzbgLimit, RrueReference, SolwSetpoint}
 use Rattle.zone.specs.Figures.{each_in_range}
 use Rattle.zone.specs.Inner.{five_fit}
-use borrow.Author.Rules.{rules}
-use Rattle.zone.proofs.figures.Figures.each_in_range.Statement.{statement}
-use Rattle.zone.proofs.figures.Figures.each_in_range.Tie as tie
+use Rattle.zone.proofs.figures.Figures.each_in_range.Goals as goal
 
 all_five : (range : ℕ) (f : Figures) → ((((get_or (five_fit range f) 0 false && get_or (five_fit range f) 1 false) && get_or (five_fit range f) 2 false) && get_or (five_fit range f) 3 false) && get_or (five_fit range f) 4 false) ≡ each_in_range range f
 unfolding each_in_range
@@ -19,17 +17,5 @@ all_five range (HzbgLimit f) = simp (and_assoc, and-true)
 all_five range (RrueReference f) = simp (and_assoc, and-true)
 all_five range (SolwSetpoint f) = simp (and_assoc, and-true)
 
-returns : tie.Need-returns
-returns c = rw c.fits2.ensures (all_five _ _)
-
-pub each-in-range-spec : {M : Type 1} → statement M
-each-in-range-spec =
-    tie.close
-    (tie.spec
-    (λ c κs. search rules)
-    (λ c. search rules)
-    (λ c. search rules)
-    (λ c. search rules)
-    (λ c. search rules)
-    (λ c. search rules)
-    returns)
+pub returns : goal.returns
+returns c = rw c.fits-fits.ensures (all_five _ _)
