@@ -33,7 +33,7 @@ pub fn put_short(address: u8, function: u8, room: &mut [u8]) -> usize
 {
     let body = [address, function];
     let frame = [0x10, address, function, checksum(&body), 0x16];
-    bytes::copy(&frame, room)
+    wire::copy(&frame, room)
 }
 
 fn low(n: u32) -> u8

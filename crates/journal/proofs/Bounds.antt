@@ -8,7 +8,7 @@ use native.Mathlib.Omega.{arith}
 use lib.ListN.{length, length-append, take-append-drop}
 use lib.Dec.{leb, ltb, eqb}
 use borrow.Author.Tests.{leb-true}
-use Rattle.bytes.specs.Bytes.{index_of}
+use Rattle.texts.specs.Texts.{index_of}
 use Rattle.zone.specs.declared.figures.Figures.{Figures}
 use Rattle.zone.proofs.Tests.{and_l}
 use Rattle.wire.specs.declared.Figure.{Figure}

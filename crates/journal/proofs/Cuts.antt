@@ -8,7 +8,7 @@ use lib.ListN.{length, take, length-take}
 use lib.Dec.{ltb, eqb}
 use lib.Seq.{take_all, take-take}
 use borrow.Author.Tests.{ltb-true, ltb-false}
-use Rattle.bytes.specs.Bytes.{index_of}
+use Rattle.texts.specs.Texts.{index_of}
 use Rattle.zone.specs.Lists.{ascii}
 use Rattle.zone.specs.Figures.{each_in_range, in_range, all_zero}
 use Rattle.zone.specs.Zones.{zone_otherwise_sound, zone_sound}

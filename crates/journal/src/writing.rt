@@ -34,7 +34,7 @@ fn put_head(letter: u8, number: u32, room: &mut [u8]) -> usize
 {
     if number < 10 {
         let head = [letter, b'\t', 48 + (number as u8), b'\t'];
-        bytes::copy(&head, room)
+        wire::copy(&head, room)
     } else {
         let head = [
             letter,
@@ -43,7 +43,7 @@ fn put_head(letter: u8, number: u32, room: &mut [u8]) -> usize
             48 + ((number % 10) as u8),
             b'\t',
         ];
-        bytes::copy(&head, room)
+        wire::copy(&head, room)
     }
 }
 
@@ -52,7 +52,7 @@ fn put_dash(room: &mut [u8]) -> usize
     requires { 1 ≤ length room.old }
     ensures { Filled (or_dash []) room.old room.new result }
 {
-    bytes::copy(b"-", room)
+    wire::copy(b"-", room)
 }
 
 fn put_text_reply(answer: Answer, room: &mut [u8]) -> usize

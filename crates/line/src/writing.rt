@@ -43,7 +43,7 @@ fn put_deadline(letter: u8, f: DeadlineFigures, room: &mut [u8]) -> usize
         digit(f.time, 10),
         digit(f.time, 1),
     ];
-    bytes::copy(&line, room)
+    wire::copy(&line, room)
 }
 
 fn put_window(letter: u8, f: WindowFigures, room: &mut [u8]) -> usize
@@ -75,7 +75,7 @@ fn put_window(letter: u8, f: WindowFigures, room: &mut [u8]) -> usize
         digit(f.end, 10),
         digit(f.end, 1),
     ];
-    bytes::copy(&line, room)
+    wire::copy(&line, room)
 }
 
 fn put_limit(letter: u8, f: LimitFigures, room: &mut [u8]) -> usize
@@ -93,7 +93,7 @@ fn put_limit(letter: u8, f: LimitFigures, room: &mut [u8]) -> usize
         digit(f.time, 10),
         digit(f.time, 1),
     ];
-    bytes::copy(&line, room)
+    wire::copy(&line, room)
 }
 
 fn put_reference(letter: u8, f: ReferenceFigures, room: &mut [u8]) -> usize
@@ -117,7 +117,7 @@ fn put_reference(letter: u8, f: ReferenceFigures, room: &mut [u8]) -> usize
         digit(f.upper, 10),
         digit(f.upper, 1),
     ];
-    bytes::copy(&line, room)
+    wire::copy(&line, room)
 }
 
 fn put_setpoint(letter: u8, f: SetpointFigures, room: &mut [u8]) -> usize
@@ -135,7 +135,7 @@ fn put_setpoint(letter: u8, f: SetpointFigures, room: &mut [u8]) -> usize
         digit(f.setpoint, 10),
         digit(f.setpoint, 1),
     ];
-    bytes::copy(&line, room)
+    wire::copy(&line, room)
 }
 
 // The line of figures, with the letter of a write or of a reply.
@@ -158,10 +158,10 @@ pub fn put_read(group: Group, room: &mut [u8]) -> usize
     ensures { Filled (line_of (command.Read group)) room.old room.new result }
 {
     match group {
-        Group::Ahue => bytes::copy(b"LAHUE", room),
-        Group::Hzbg => bytes::copy(b"LHZBG", room),
-        Group::Rrue => bytes::copy(b"LRRUE", room),
-        Group::Solw => bytes::copy(b"LSOLW", room),
+        Group::Ahue => wire::copy(b"LAHUE", room),
+        Group::Hzbg => wire::copy(b"LHZBG", room),
+        Group::Rrue => wire::copy(b"LRRUE", room),
+        Group::Solw => wire::copy(b"LSOLW", room),
     }
 }
 

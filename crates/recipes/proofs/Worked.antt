@@ -1,6 +1,6 @@
 -- The worked recipes, computed. Assumes nothing.
 use mathlib.Core.Path.{refl}
-use Rattle.bytes.specs.Bytes.{index_of, index_after}
+use Rattle.texts.specs.Texts.{index_of}
 use Rattle.zone.specs.Figures.{each_in_range, in_range, all_zero}
 use Rattle.zone.specs.Zones.{zone_otherwise_sound, zone_sound}
 use Rattle.card.specs.Records.{differ, sound}

@@ -53,11 +53,11 @@ fn put_text_of(a: Acknowledgement, room: &mut [u8]) -> usize
     ensures { Filled (text_of a) room.old room.new result }
 {
     match a {
-        Acknowledgement::Okay => bytes::copy(b"QOK00", room),
-        Acknowledgement::CommandError => bytes::copy(b"QFE01", room),
-        Acknowledgement::SyntaxError => bytes::copy(b"QFE02", room),
-        Acknowledgement::CommandLock => bytes::copy(b"QFE03", room),
-        Acknowledgement::TransferError => bytes::copy(b"QFE04", room),
+        Acknowledgement::Okay => wire::copy(b"QOK00", room),
+        Acknowledgement::CommandError => wire::copy(b"QFE01", room),
+        Acknowledgement::SyntaxError => wire::copy(b"QFE02", room),
+        Acknowledgement::CommandLock => wire::copy(b"QFE03", room),
+        Acknowledgement::TransferError => wire::copy(b"QFE04", room),
     }
 }
 

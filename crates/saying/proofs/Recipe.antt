@@ -8,7 +8,7 @@ use lib.ListN.{length, take, drop, get_or, length-take, length-drop, get_or-eq_d
 use lib.Seq.{take_all}
 use lib.Dec.{leb, eqb}
 use borrow.Author.Tests.{leb-true}
-use Rattle.bytes.specs.Bytes.{index_of, index_after}
+use Rattle.texts.specs.Texts.{index_of}
 use Rattle.zone.specs.Zones.{empty_zone}
 use Rattle.card.specs.declared.records.Record.{Record}
 use Rattle.card.specs.Records.{zone_at}

@@ -8,7 +8,7 @@ use native.Mathlib.Numerals.{add-one}
 use lib.ListN.{length, get_or, drop, drop_of_length-le}
 use lib.Dec.{eqb}
 use lib.Seq.{drop-drop, drop-cons, get_or-drop}
-use Rattle.bytes.specs.Bytes.{index_of}
+use Rattle.texts.specs.Texts.{index_of}
 use Rattle.wire.specs.declared.Figure.{Figure}
 use Rattle.wire.specs.declared.Figure.TheVariants.{Value, Bad}
 use Rattle.texts.specs.declared.decimals.Numeral.{Numeral}

@@ -8,7 +8,7 @@ use lib.ListN.{length, take, drop, length-drop, drop_of_length-le}
 use lib.Dec.{ltb, eqb}
 use lib.Seq.{append_snoc, drop-drop, take_all}
 use borrow.Author.Tests.{eqb-true, ltb-true, ltb-false}
-use Rattle.bytes.specs.Bytes.{index_of, index_after}
+use Rattle.texts.specs.Texts.{index_of}
 use Rattle.texts.specs.Texts.{line_feed, ended_behind, begun_behind, ended, begun, unended, lines_of}
 use Rattle.texts.specs.Inner.{start_of}
 use Rattle.texts.specs.declared.decimals.Addressed.{Addressed}

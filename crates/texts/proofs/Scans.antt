@@ -9,7 +9,7 @@ use native.Mathlib.Numerals.{add-one}
 use lib.Dec.{eqb}
 use lib.ListN.{length, take, drop, get_or, length-drop, drop_of_length-le}
 use lib.Seq.{drop-cons, drop-drop, take-length}
-use Rattle.bytes.specs.Bytes.{index_of, index_after, slice}
+use Rattle.texts.specs.Texts.{index_of}
 use Rattle.zone.proofs.Tests.{neither}
 use Rattle.texts.specs.Texts.{line_feed}
 use Rattle.texts.specs.Inner.{has_feed}

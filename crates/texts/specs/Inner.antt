@@ -1,6 +1,6 @@
 -- What the functions on the way come to: steps for a reader in a loop, each tied by a law of proofs/ to what Numbers and Texts say. No promise of the log cites them.
 use Rattle.std.specs.Prelude.{ℕ, zero, suc, ◌+◌, Bool, false, cond, ◌||◌, List, [], ◌∷◌, get_or, take, drop, eqb}
-use Rattle.bytes.specs.Bytes.{index_of}
+use Rattle.texts.specs.Texts.{index_of}
 use Rattle.wire.specs.declared.Figure.{Figure}
 use Rattle.wire.specs.declared.Figure.TheVariants.{Value, Bad}
 use Rattle.wire.specs.Road.{Numbers, are, none}

@@ -1,12 +1,16 @@
 -- The lines of a text, and the fields of a line: where a line feed ends the one and a tab the other; a zone with what is for it; and a reply as it stands in a line.
-use Rattle.std.specs.Prelude.{ℕ, cond, List, [], ◌∷◌, ◌++◌, take, drop, eqb}
-use Rattle.bytes.specs.Bytes.{index_of}
+use Rattle.std.specs.Prelude.{ℕ, suc, cond, List, [], ◌∷◌, ◌++◌, take, drop, eqb}
 use Rattle.wire.specs.declared.Figure.{Figure}
 use Rattle.wire.specs.declared.Figure.TheVariants.{Value, Bad}
 use Rattle.texts.specs.Numbers.{decimal_of}
 
 abbrev pub line_feed : ℕ
 line_feed = 10
+
+-- the index of the first x among the bytes, or their number where there is none
+unfoldable pub index_of : ℕ → List ℕ → ℕ
+index_of x [] = 0
+index_of x (y ∷ bytes) = cond (eqb y x) 0 (suc (index_of x bytes))
 
 -- ---- the lines of a text
 

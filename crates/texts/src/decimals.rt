@@ -4,6 +4,7 @@ ghost use Rattle.texts.specs.Numbers.{decimal_of};
 ghost use Rattle.texts.specs.Texts.{zoned};
 ghost use Rattle.texts.specs.Inner.{numeral_from, numeral_at, zoned_seen, start_of};
 
+use crate::lines::find;
 use line::Judged;
 use wire::Figure;
 
@@ -45,7 +46,7 @@ fn decimal_from(line: &[u8], start: usize) -> Numeral
     requires { start ≤ length line.now }
     ensures { result ≡ numeral_from line.now start }
 {
-    let end = bytes::scan::find(line, start, line.len(), b'\t');
+    let end = find(line, start, b'\t');
     match decimal(&line[start..end]) {
         Figure::Value(value) => Numeral::Is(value, end),
         Figure::Bad => Numeral::Bad,

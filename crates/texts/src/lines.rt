@@ -1,8 +1,22 @@
 // Where a line of a text ends.
 ghost use Rattle.std.specs.Prelude.{◌≡◌, ◌+◌, ◌≤◌, length, drop};
-ghost use Rattle.bytes.specs.Bytes.{index_of};
-ghost use Rattle.texts.specs.Texts.{line_feed};
+ghost use Rattle.texts.specs.Texts.{line_feed, index_of};
 ghost use Rattle.texts.specs.Inner.{has_feed};
+
+// The index of the first x from `from` on, or the bytes' length.
+pub fn find(bytes: &[u8], from: usize, x: u8) -> usize
+    requires { from ≤ length bytes.now }
+    ensures { result ≡ from + index_of x (drop from bytes.now) }
+{
+    let mut i = from;
+    while i < bytes.len() {
+        if bytes[i] == x {
+            return i;
+        }
+        i += 1;
+    }
+    i
+}
 
 // Whether a line feed is among the bytes. Every byte is looked at, so that many can be at once.
 fn has_feed(part: &[u8]) -> bool
@@ -26,9 +40,9 @@ pub fn line_end(block: &[u8], from: usize) -> usize
     let mut i = from;
     while 16 <= block.len() - i {
         if has_feed(&block[i..i + 16]) {
-            return bytes::scan::find(block, i, block.len(), b'\n');
+            return find(block, i, b'\n');
         }
         i += 16;
     }
-    bytes::scan::find(block, i, block.len(), b'\n')
+    find(block, i, b'\n')
 }

@@ -20,12 +20,12 @@ placed_next xs ys room =
 
 -- the part of a room from `at` on, lent to a copy and back in its place
 pub lent_part : (room src last : List ℕ) (at : ℕ) → at + length src ≤ length room
-    → last ≡ take (length src) src ++ drop (length src) (take (length room - at) (drop at room))
+    → last ≡ filled src (take (length room - at) (drop at room))
     → take at room ++ (last ++ drop (length room - at) (drop at room)) ≡ placed room at src
 unfolding placed
 lent_part room src last at h e =
     let n : length (drop at room) ≤ length room - at = rw length-drop (omega arith) in
-    rw (e, take-length src, take_all (length room - at) (drop at room) n, drop_of_length-le (drop at room) n, drop-drop (length src) at room, append-nil)
+    rw (e, take_all (length room - at) (drop at room) n, drop_of_length-le (drop at room) n, drop-drop (length src) at room, append-nil)
     (sym (append_assoc (take at room) src (drop (at + length src) room)))
 
 -- the part that is lent has as many bytes as are left

@@ -6,7 +6,7 @@
 #![tactic(auto)]
 
 ghost use Rattle.std.specs.Prelude.{◌≡◌, ◌+◌, ◌≤◌, length};
-ghost use Rattle.wire.specs.Room.{placed};
+ghost use Rattle.wire.specs.Room.{Filled, placed};
 
 use zone::{Command, Group};
 
@@ -32,10 +32,20 @@ pub enum Named {
     NoGroup,
 }
 
+// Copies src to the front of the room, and tells how many bytes that are.
+pub fn copy(src: &[u8], room: &mut [u8]) -> usize
+    requires { length src.now ≤ length room.old }
+    ensures { Filled src.now room.old room.new result }
+{
+    let n = src.len();
+    room[..n].copy_from_slice(src);
+    n
+}
+
 // Puts src into the room from index `at` on.
 pub fn put(src: &[u8], room: &mut [u8], at: usize)
     requires { at + length src.now ≤ length room.old }
     ensures { room.new ≡ placed room.old at src.now }
 {
-    bytes::copy(src, &mut room[at..]);
+    copy(src, &mut room[at..]);
 }
