@@ -7,7 +7,7 @@ pub mod Mapped
 pub mod Kept
 pub mod Sets
 pub mod Merging
-pub mod Found
+pub mod Finding
 pub mod Repairs
 pub mod Unique
 pub mod Worked

@@ -25,7 +25,7 @@ use Rattle.card.specs.Records.{zone_at, with_zone, held_in, sound, find_of, no_z
 use Rattle.card.specs.Calls.{add_at, add_of, remove_at, remove_of, report_at, report_of}
 use Rattle.card.specs.Inner.{answer_by, after_by, verdict_seen, judged, stored, ask_at, ask_of}
 use Rattle.card.proofs.Scans.{found_somewhere, found_nowhere}
-use Rattle.card.proofs.Found.{found_there}
+use Rattle.card.proofs.Finding.{found_there}
 use Rattle.card.proofs.Inner.{stored_settled}
 use Rattle.line.specs.Line.{line_read}
 use Rattle.frame.specs.declared.reading.Framed.{Framed}

@@ -15,7 +15,7 @@ use Rattle.card.specs.Answers.{Result}
 use Rattle.card.specs.Records.{zone_at, sound}
 use Rattle.card.specs.Calls.{apply_of}
 use Rattle.card.specs.Inner.{ask_of}
-use Rattle.card.proofs.Found.{find_own}
+use Rattle.card.proofs.Finding.{find_own}
 use Rattle.card.proofs.Sets.{read_tells}
 use Rattle.wire.specs.declared.Parsed.TheVariants.{Known}
 use Rattle.wire.specs.Road.{carries_command}

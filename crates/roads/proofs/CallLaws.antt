@@ -19,7 +19,7 @@ use Rattle.card.specs.Answers.{Result, number_of, values_of, outcome_seen}
 use Rattle.card.specs.Refusals.{◌gives◌, first, settled}
 use Rattle.card.specs.Records.{zone_at, with_zone, sound, find_of, no_zone}
 use Rattle.card.specs.Inner.{range_at, ask_of}
-use Rattle.card.proofs.Found.{found_there}
+use Rattle.card.proofs.Finding.{found_there}
 use Rattle.wire.specs.declared.Parsed.{Parsed}
 use Rattle.wire.specs.declared.Parsed.TheVariants.{Known, Unknown, Syntax}
 use Rattle.wire.specs.Room.{Filled}

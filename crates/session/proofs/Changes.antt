@@ -25,7 +25,7 @@ use Rattle.card.specs.declared.records.Found.TheVariants.{At}
 use Rattle.card.specs.Records.{zone_at, find_of}
 use Rattle.card.specs.Calls.{add_of, apply_of}
 use Rattle.card.proofs.Kept.{add_exactly, add_keeps, remove_keeps, report_keeps, apply_keeps, choose_source_keeps, book_keeps, ship_keeps}
-use Rattle.card.proofs.Found.{find_own}
+use Rattle.card.proofs.Finding.{find_own}
 use Rattle.card.proofs.Repairs.{repair_done, shut_present, repair_mends}
 use Rattle.card.proofs.Sets.{remove_at_zone, report_at_zone, write_at_zone, choose_source_at_zone, book_at_zone, ship_at_zone, add_sets, remove_sets, report_sets, write_sets, choose_source_sets, book_sets, ship_sets, ship_held, read_alters_nothing, setpoint_in_use_alters_nothing}
 use Rattle.card.proofs.Merging.{merge_at_zones, merge_folds}

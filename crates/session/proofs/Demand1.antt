@@ -21,7 +21,7 @@ use Rattle.card.specs.Rules.{Frees}
 use Rattle.card.proofs.Sets.{remove_at_zone, remove_frees}
 use Rattle.card.proofs.Merging.{merge_at_zones, merge_folds}
 use Rattle.card.proofs.Scans.{found_somewhere}
-use Rattle.card.proofs.Found.{found_nowhere}
+use Rattle.card.proofs.Finding.{found_nowhere}
 use Rattle.frame.specs.Frame.{address_in, body_in, shaped, checksum_right, body_read}
 use Rattle.roads.specs.Acknowledgements.{text_reply, frame_reply}
 use Rattle.roads.specs.Calls.{Answered, too_small, parsed_rows, answer_text, holder, result_at, in_frame_reply, answer_frame}

@@ -18,7 +18,7 @@ use Rattle.card.specs.Records.{zone_at, sound, no_zone}
 use Rattle.card.specs.Calls.{command_at, apply_of}
 use Rattle.card.specs.Rules.{row_at}
 use Rattle.card.specs.Inner.{ask_of}
-use Rattle.card.proofs.Found.{found_first, found_there}
+use Rattle.card.proofs.Finding.{found_first, found_there}
 use Rattle.wire.specs.declared.Parsed.{Parsed}
 use Rattle.wire.specs.declared.Parsed.TheVariants.{Known, Unknown, Syntax}
 use Rattle.wire.specs.Road.{carries_command}

@@ -14,7 +14,7 @@ use Rattle.card.specs.declared.records.Record.{Record}
 use Rattle.card.specs.declared.records.Found.TheVariants.{At}
 use Rattle.card.specs.Records.{empty_record, zone_at, sound}
 use Rattle.card.proofs.Storing.{zone_sound_lem, stored_new}
-use Rattle.card.proofs.Found.{find_held, past_empty}
+use Rattle.card.proofs.Finding.{find_held, past_empty}
 use Rattle.card.proofs.Sets.{stored_there}
 use Rattle.card.proofs.Worked.{empty_record_sound}
 use Rattle.frame.specs.Frame.{shaped, address_in}

@@ -23,7 +23,7 @@ use Rattle.zone.proofs.Order.{groups_commute, last_stands}
 use Rattle.card.specs.declared.records.Record.{Record}
 use Rattle.card.specs.Records.{zone_at, with_zone, sound, no_zone}
 use Rattle.card.specs.Calls.{apply_of}
-use Rattle.card.proofs.Found.{find_alike}
+use Rattle.card.proofs.Finding.{find_alike}
 use Rattle.card.proofs.Sets.{stored_there, write_after, read_alters_nothing}
 use Rattle.wire.specs.declared.Parsed.TheVariants.{Known}
 use Rattle.frame.specs.Frame.{address_in, body_in, body_read}

@@ -24,7 +24,7 @@ use Rattle.card.specs.Refusals.{◌gives◌, first}
 use Rattle.card.specs.Calls.{choose_source_of, setpoint_told}
 use Rattle.card.proofs.Kept.{choose_source_keeps}
 use Rattle.card.proofs.Storing.{zone_sound_lem}
-use Rattle.card.proofs.Found.{present_below}
+use Rattle.card.proofs.Finding.{present_below}
 use Rattle.card.proofs.Sets.{write_at_zone, choose_source_at_zone, choose_source_sets, add_sets, read_tells, setpoint_in_use_tells}
 use Rattle.roads.specs.Calls.{Answered, said}
 use Rattle.session.specs.Sessions.{setpoint_in_use, Call, quiet, answer_to, after}

@@ -24,7 +24,7 @@ use Rattle.card.specs.Refusals.{Row, ◌gives◌, first, settled}
 use Rattle.card.specs.Records.{zone_at, with_zone, held_in, sound, find_of, no_zone}
 use Rattle.card.specs.Calls.{Judgement, zone_rows, at_zone, add_at, add_of, remove_at, remove_of, report_at, report_of, command_at, apply_of, choose_source_at, choose_source_of, book_at, book_of, ship_at, ship_of, together, merge_rows, merged, merge_of, Repair}
 use Rattle.card.proofs.Storing.{sound_parts}
-use Rattle.card.proofs.Found.{find_alike}
+use Rattle.card.proofs.Finding.{find_alike}
 use Rattle.card.proofs.Mapped.{mapped, mapped_set, held_mapped}
 use Rattle.card.proofs.Sets.{setpoint_in_use_alters_nothing}
 use Rattle.card.proofs.Repairs.{repair_of_sound}
