@@ -1,0 +1,13 @@
+-- The figures are read in the row's order; the first that is wrong makes a syntax error at its place, and behind the last the line ends.
+use mathlib.Core.Path.{sym, ◌∙◌}
+use Rattle.line.specs.Inner.{form_walked}
+use Rattle.line.proofs.Three.{onward_end, read_end}
+use Rattle.line.proofs.reading.heating_limit.Goals as goal
+
+pub returns-in-Wrong : goal.returns-in-Wrong
+unfolding form_walked
+returns-in-Wrong c = rw (sym c.figure.ensures ∙ c.in-Wrong.is) c.misread.ensures
+
+pub returns-in-Value : goal.returns-in-Value
+unfolding form_walked
+returns-in-Value c = rw (sym c.figure.ensures ∙ c.in-Value.is, onward_end, read_end) c.whole.ensures
