@@ -32,10 +32,8 @@ unfolding decimal_of
 decimal_digits l h k z = rw (le-leb 1 (length l) h, le-leb (length l) 5 k, z)
 
 -- a field ends where a search for a tab to the end of the line stops
-pub numeral_found : (l : List ℕ) (start end : ℕ) (f : Figure) → end ≡ start + index_of tab (slice start (length l) l)
+pub numeral_found : (l : List ℕ) (start end : ℕ) (f : Figure) → end ≡ start + index_of tab (drop start l)
     → f ≡ decimal_of (take (end - start) (drop start l)) → numeral_from l start ≡ numeral_of f end
-unfolding slice
 numeral_found l start end f e d =
-    let s : end ≡ start + index_of tab (drop start l) = rw (take-length l) at e in
     let n : end - start ≡ index_of tab (drop start l) = omega arith in
-    rw (d, n, ← s)
+    rw (d, n, ← e)

@@ -75,12 +75,12 @@ begun_plain b (x ∷ t) p = by_test (eqb x line_feed) (λ e. rw e (begun_plain [
 -- ---- by where the first line feed stands
 
 pub no_feed : (t : List ℕ) → length t ≤ index_of line_feed t → Plain t
-unfolding index_of index_after
+unfolding index_of
 no_feed [] h = none
 no_feed (x ∷ t) h = by_test (eqb x line_feed) (λ e. absurd (omega (arith, rw e at h))) (λ e. one e (no_feed t (omega (arith, rw e at h))))
 
 first_feed : (t : List ℕ) → index_of line_feed t < length t → (t ≡ take (index_of line_feed t) t ++ (line_feed ∷ drop (suc (index_of line_feed t)) t)) × Plain (take (index_of line_feed t) t)
-unfolding index_of index_after
+unfolding index_of
 first_feed [] h = absurd (omega arith)
 first_feed (x ∷ t) h =
     by_test (eqb x line_feed) (λ e. rw e (ap (λ (y : ℕ). y ∷ t) (eqb-true x line_feed e), none))
@@ -143,7 +143,7 @@ no_line block at h = rw (drop_of_length-le block h)
 
 -- it ends within the text
 feed_within : (t : List ℕ) → index_of line_feed t ≤ length t
-unfolding index_of index_after
+unfolding index_of
 feed_within [] = omega arith
 feed_within (x ∷ t) = by_test (eqb x line_feed) (λ e. rw e (omega arith)) (λ e. rw e (omega (arith, feed_within t)))
 

@@ -1,7 +1,7 @@
 -- What the search for a line feed cites, over the length of a part. Assumes nothing.
 use Prim.Native.Nat.{ℕ, zero, suc, ◌+◌, ◌-◌, ◌≤◌, ◌<◌}
 use mathlib.Core.Path.{◌≡◌, sym}
-use mathlib.Core.Bool.{Bool, false, ◌||◌, or_assoc, or-false}
+use mathlib.Core.Bool.{Bool, true, false, cond, ◌||◌, or_assoc, or-false}
 use mathlib.Core.List.{List, [], ◌∷◌}
 use native.Mathlib.Omega.{arith}
 use native.Mathlib.Nat.{zero-add}
@@ -29,7 +29,7 @@ has_end l i t h e = rw (drop_of_length-le l h, or-false t) at e
 -- ---- where the first one is
 
 passed : (k : ℕ) (l : List ℕ) → k ≤ length l → has_feed (take k l) ≡ false → index_of line_feed l ≡ k + index_of line_feed (drop k l)
-unfolding has_feed index_of index_after
+unfolding has_feed index_of
 passed zero l h e = sym (zero-add (index_of line_feed l))
 passed (suc k) [] h e = absurd (omega arith)
 passed (suc k) (x ∷ l) h e =
@@ -44,7 +44,26 @@ feed_behind l i k h e =
     let p = passed k (drop i l) (omega (arith, length-drop i l)) (rw n at e) in
     rw (← drop-drop k i l) (omega (arith, p))
 
--- The library's search up to the end.
-pub feed_found : (l : List ℕ) (i : ℕ) → i + index_of line_feed (slice i (length l) l) ≡ i + index_of line_feed (drop i l)
-unfolding slice
-feed_found l i = rw (take-length l)
+-- ---- one byte at a time
+
+-- a byte that is not x is passed
+pub find_more : (x : ℕ) (l : List ℕ) (from i : ℕ) → i < length l → eqb (get_or l i 0) x ≡ false
+    → from + index_of x (drop from l) ≡ i + index_of x (drop i l) → from + index_of x (drop from l) ≡ i + 1 + index_of x (drop (i + 1) l)
+unfolding index_of
+find_more x l from i h e p =
+    let n : from + index_of x (drop from l) ≡ i + cond (eqb (get_or l i 0) x) 0 (suc (index_of x (drop (suc i) l))) = rw (drop-cons l i 0 h) at p in
+    rw add-one (omega (arith, rw e at n))
+
+-- one that is x is the first
+pub find_here : (x : ℕ) (l : List ℕ) (from i : ℕ) → i < length l → eqb (get_or l i 0) x ≡ true
+    → from + index_of x (drop from l) ≡ i + index_of x (drop i l) → i ≡ from + index_of x (drop from l)
+unfolding index_of
+find_here x l from i h e p =
+    let n : from + index_of x (drop from l) ≡ i + cond (eqb (get_or l i 0) x) 0 (suc (index_of x (drop (suc i) l))) = rw (drop-cons l i 0 h) at p in
+    omega (arith, rw e at n)
+
+-- where no byte is left there is none
+pub find_end : (x : ℕ) (l : List ℕ) (from i : ℕ) → length l ≤ i
+    → from + index_of x (drop from l) ≡ i + index_of x (drop i l) → i ≡ from + index_of x (drop from l)
+unfolding index_of
+find_end x l from i h p = omega (arith, rw (drop_of_length-le l h) at p)

@@ -6,7 +6,8 @@ ghost use Rattle.texts.specs.Inner.{has_feed};
 // The index of the first x from `from` on, or the bytes' length.
 pub fn find(bytes: &[u8], from: usize, x: u8) -> usize
     requires { from ≤ length bytes.now }
-    ensures { result ≡ from + index_of x (drop from bytes.now) }
+    ensures place { result ≡ from + index_of x (drop from bytes.now) }
+    ensures bound { result ≤ length bytes.now }
 {
     let mut i = from;
     while i < bytes.len() {
