@@ -25,11 +25,11 @@ pub record KeepsBesides (r : Record) (touched : ℕ → Type 0) (o : Result Reco
   -- a sound record stays sound
   pub stays : sound r ≡ true → sound o.after ≡ true
 
--- of a call on zone n: add-keeps, remove-keeps, report-keeps, apply-keeps, choose-source-keeps, setpoint-in-use-keeps, book-keeps and ship-keeps, in proofs/Kept.antt
+-- of a call on zone n: add_keeps, remove_keeps, report_keeps, apply_keeps, choose_source_keeps, setpoint_in_use_keeps, book_keeps and ship_keeps, in proofs/Kept.antt
 abbrev pub Keeps : Record → ℕ → Result Record → Type 0
 Keeps r n o = KeepsBesides r (λ m. m ≡ n) o
 
--- of a merging: merge-keeps, in proofs/Merging.antt
+-- of a merging: merge_keeps, in proofs/Merging.antt
 abbrev pub KeepsButTwo : Record → ℕ → ℕ → Result Record → Type 0
 KeepsButTwo r a b o = KeepsBesides r (λ m. (m ≡ a) ⊎ (m ≡ b)) o
 
@@ -38,7 +38,7 @@ abbrev pub row_at : List Row → ℕ → Row
 row_at rows i = get_or rows i (false gives 0)
 
 -- "Given exactly when".
--- add-exactly, remove-exactly, report-exactly, apply-exactly, choose-source-exactly, setpoint-in-use-exactly, book-exactly, ship-exactly and merge-exactly, in proofs/Kept.antt; repair-exactly, in proofs/Repairs.antt
+-- add_exactly, remove_exactly, report_exactly, apply_exactly, choose_source_exactly, setpoint_in_use_exactly, book_exactly, ship_exactly and merge_exactly, in proofs/Kept.antt; repair_exactly, in proofs/Repairs.antt
 pub record ExactlyWhen (rows : List Row) (number : ℕ) : Type 0 where
   -- a row's number is given if and only if its test holds and no earlier one does
   pub refused : (i : ℕ) → i < length rows → (number ≡ (row_at rows i).number) ↔ (((row_at rows i).test ≡ true) × ((j : ℕ) → j < i → (row_at rows j).test ≡ false))
@@ -89,12 +89,12 @@ abbrev pub repair_order : List ℕ
 repair_order = 2 ∷ []
 
 -- The refusals stand in the printed order: all of it, or its beginning.
--- add-order, remove-order, report-order, choose-source-order, setpoint-in-use-order, book-order, ship-order, merge-order, apply-order and, of a write, write-order, in proofs/Kept.antt; repair-order, in proofs/Repairs.antt
+-- add_order_lem, remove_order_lem, report_order_lem, choose_source_order_lem, setpoint_in_use_order_lem, book_order_lem, ship_order_lem, merge_order_lem, apply_order_lem and, of a write, write_order, in proofs/Kept.antt; repair_order_lem, in proofs/Repairs.antt
 abbrev pub InOrder : List Row → List ℕ → Type 0
 InOrder rows printed = numbers_in rows ≡ take (length rows) printed
 
 -- "Removing empties the zone; its number and address may be used again".
--- remove-frees, in proofs/Sets.antt: of the record after zone n of r was removed; of a merging it is a part of Folds, below
+-- remove_frees, in proofs/Sets.antt: of the record after zone n of r was removed; of a merging it is a part of Folds, below
 pub record Frees (r : Record) (n : ℕ) (after : Record) : Type 0 where
   pub zone : zone_at after n ≡ empty_zone
   -- no zone holds the address that it had
@@ -105,7 +105,7 @@ pub record Frees (r : Record) (n : ℕ) (after : Record) : Type 0 where
   pub address : (m range : ℕ) → m < 16 → (zone_at after m).present ≡ false → range_known range ≡ true → (add_of after m (zone_at r n).address range).number ≡ 0
 
 -- "Merging zone a into b moves a's whole booking to b and removes a; a's other figures are dropped, b's are kept" (document 02, Req 07).
--- merge-folds, in proofs/Merging.antt: of the record after a done merging of zone a of r into b
+-- merge_folds, in proofs/Merging.antt: of the record after a done merging of zone a of r into b
 pub record Folds (r : Record) (a b : ℕ) (after : Record) : Type 0 where
   -- a is removed: the empty zone, and its number and address may be used again
   pub removed : Frees r a after
@@ -115,7 +115,7 @@ pub record Folds (r : Record) (a b : ℕ) (after : Record) : Type 0 where
   pub others : (m : ℕ) → (m ≡ a → ⊥) → (m ≡ b → ⊥) → zone_at after m ≡ zone_at r m
 
 -- "the search ends at the first zone that holds it".
--- found-first and found-nowhere, in proofs/Found.antt: find answers zone n if and only if this holds, and none if and only if no zone holds the address
+-- found_first and found_nowhere, in proofs/Found.antt: find answers zone n if and only if this holds, and none if and only if no zone holds the address
 pub record FirstToHold (r : Record) (address n : ℕ) : Type 0 where
   pub here : holds address (zone_at r n) ≡ true
   pub earlier : (m : ℕ) → m < n → holds address (zone_at r m) ≡ false

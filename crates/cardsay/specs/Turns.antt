@@ -14,5 +14,5 @@ pub record Said (r : Record) (line out : List ℕ) (b : Between) : Type 0 where
 -- what a byte leaves
 pub data Hears (r : Record) (held : List ℕ) (x : ℕ) (line out : List ℕ) (b : Between) : Type 0 where
   ended : x ≡ line_feed → Said r held out b → Hears r held x line out b
-  -- no more than 601 bytes are held: what is said of a longer line is what is said of its first 601 bytes (cut-long, in saying's proofs/Long.antt)
+  -- no more than 601 bytes are held: what is said of a longer line is what is said of its first 601 bytes (cut_long, in saying's proofs/Long.antt)
   grew : (x ≡ line_feed → ⊥) → b.after ≡ r → b.handed ≡ 0 → take b.held line ≡ take 601 (held ++ (x ∷ [])) → Hears r held x line out b

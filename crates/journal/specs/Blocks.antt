@@ -32,7 +32,7 @@ abbrev pub closed : List ℕ → List ℕ
 closed [] = []
 closed (x ∷ held) = (x ∷ held) ++ (line_feed ∷ [])
 
--- the input in blocks, each behind what was held. However it is cut, what is written is log_of the whole (cut-anywhere, in proofs/Cuts.antt)
+-- the input in blocks, each behind what was held. However it is cut, what is written is log_of the whole (cut_anywhere, in proofs/Cuts.antt)
 unfoldable pub blocks_yield : Record → List ℕ → List (List ℕ) → List ℕ
 blocks_yield r held [] = (fed r (closed held)).output
 blocks_yield r held (block ∷ blocks) = (fed r (held ++ block)).output ++ blocks_yield (fed r (held ++ block)).after (fed r (held ++ block)).held blocks

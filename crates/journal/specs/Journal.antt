@@ -53,7 +53,7 @@ lines_yield r (line ∷ lines) = record {
 }
 
 -- the calls that lines make of the card: one each, and none where a line is unreadable.
--- So a log is a session (is-session, in proofs/Cuts.antt), and what is proved of every session holds of every log
+-- So a log is a session (is_session, in proofs/Cuts.antt), and what is proved of every session holds of every log
 abbrev pub call_of : Asks → List Call
 call_of (adds zone address range) = quiet (add zone address range) ∷ []
 call_of (removes zone) = quiet (remove zone) ∷ []

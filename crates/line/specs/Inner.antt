@@ -26,7 +26,7 @@ judged_by figure.Bad place = Wrong (told place)
 unfoldable pub digits_read : ℕ → List ℕ → Judged
 digits_read width l = judged_by (digits_of width l) (wrong_from 0 (digits_expected width) l)
 
--- the same, digit by digit: `width` of them behind a number v that was read so far, from index i on (digits-walked, in proofs/DigitLaws.antt)
+-- the same, digit by digit: `width` of them behind a number v that was read so far, from index i on (digits_walked_lem, in proofs/DigitLaws.antt)
 unfoldable pub digits_walked : ℕ → ℕ → ℕ → List ℕ → Judged
 digits_walked v i zero [] = Value v
 digits_walked v i zero (x ∷ l) = Wrong i

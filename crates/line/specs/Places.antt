@@ -117,6 +117,6 @@ abbrev pub named_expects : Named → List ℕ → List Expected
 named_expects NoGroup l = []
 named_expects (Is group) l = expected_as (get_or l 0 0) group (length l)
 
--- what is expected in a line of a known command; its place was found by it (expected-there, in proofs/Placed.antt)
+-- what is expected in a line of a known command; its place was found by it (expected_there, in proofs/Placed.antt)
 unfoldable pub expected_in : List ℕ → List Expected
 expected_in l = cond (ltb (length l) 5) [] (named_expects (group_named (take 4 (drop 1 l))) l)

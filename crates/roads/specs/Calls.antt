@@ -88,7 +88,7 @@ text_order = 1 ∷ 2 ∷ 3 ∷ 7 ∷ 8 ∷ 9 ∷ 10 ∷ []
 abbrev pub port_rows : Record → ℕ → List ℕ → List Row
 port_rows r n line = (no_zone r n gives 3) ∷ parsed_rows (zone_at r n) (line_read line)
 
--- a write's refusals are all of these; those of a read, or of a line that is no command, are their beginning: write-line-order and text-order, in proofs/Exactly.antt
+-- a write's refusals are all of these; those of a read, or of a line that is no command, are their beginning: write_line_order and text_order_lem, in proofs/Exactly.antt
 abbrev pub text_rows : Record → ℕ → List ℕ → List ℕ → List Row
 text_rows r n line room = (too_small room gives 1) ∷ (not (sound r) gives 2) ∷ port_rows r n line
 
@@ -127,7 +127,7 @@ zone_found Nowhere = 16
 abbrev pub holder : Record → List ℕ → Found
 holder r frame = find_of r (address_in frame)
 
--- as with a line: write-frame-order and frame-order
+-- as with a line: write_frame_order and frame_order_lem
 abbrev pub frame_rows : Record → List ℕ → List ℕ → List Row
 frame_rows r frame room =
     (too_small room gives 1)

@@ -19,7 +19,7 @@ range_in g = between g.lowest g.highest
 abbrev pub shown_seen : Shown → List ℕ → Said
 shown_seen o out = record { output = take o.filled out; after = o.after }
 
--- what came of loading a recipe has this in bounds, whatever was loaded (loads-in-bounds, in proofs/Loads.antt)
+-- what came of loading a recipe has this in bounds, whatever was loaded (loads_in_bounds, in proofs/Loads.antt)
 pub record InBounds (recipe : List ℕ) (o : Loading) : Type 0 where
   pub few : o.answered.said.number ≡ 0 → length (lines_of recipe) ≤ 64
   pub roomy : o.answered.said.number ≡ 0 → 32 * length (lines_of recipe) ≤ length o.answered.said.room

@@ -1,5 +1,5 @@
 -- The card that stores the first command of a session and only acknowledges later ones is shut out: every write that is answered as done is stored, whatever came before, and stays until its group is written again, its zone is removed (by merging too) or its window mended.
--- Cites write-sets of the card, the law that the edit zone/must-fail/stores_first_only breaks. Assumes nothing.
+-- Cites write_sets of the card, the law that the edit zone/must-fail/stores_first_only breaks. Assumes nothing.
 use Prim.Native.Nat.{ℕ}
 use mathlib.Core.Path.{◌≡◌, refl, sym, ap, ◌∙◌}
 use mathlib.Core.Bool.{Bool, true, false}

@@ -128,7 +128,7 @@ ByEitherRoad = (r : Record) (xs ys : List Call) → Rerouted after OtherRoad r x
 
 -- ---- the buyer's case: "fitters folded head 5 into head 4", of any two heads
 
--- what follows once zone a has been merged into b. Some of it is said out for the buyer: heating-limit is contained in folded, no-booking and no-shipment in gone, and empty in StaysRemoved
+-- what follows once zone a has been merged into b. Some of it is said out for the buyer: heating_limit is contained in folded, no_booking and no_shipment in gone, and empty in StaysRemoved
 pub record Follows (r : Record) (a b : ℕ) : Type 0 where
   -- at once all of a's kilograms stand on b, b is otherwise as it was, a is the empty zone, its address is free again, and no other zone is touched
   pub folded : Folds r a b (after r (quiet (merge a b)))

@@ -359,7 +359,7 @@ pub record WriteStored (given : Record) (n : ℕ) (figures : Figures) (room : Li
   pub as_frame : Present given n → carries_command frame_road (Write figures) ≡ true → Done given (in_room (frame (frame_of (zone_at given n).address (Write figures))) room)
       → SetsOnly given n figures (after given (in_room (frame (frame_of (zone_at given n).address (Write figures))) room))
 
--- from whatever record, so from any that a session leaves: "every step starts from the record just handed back" (document 01). (What the lines of a recipe set: lines-set, in Changes.antt.) `every_write_is_stored`, in proofs/Useless.antt
+-- from whatever record, so from any that a session leaves: "every step starts from the record just handed back" (document 01). (What the lines of a recipe set: lines_set, in Changes.antt.) `every_write_is_stored`, in proofs/Useless.antt
 abbrev pub EveryWriteIsStored : Type 0
 EveryWriteIsStored = (r : Record) (calls : List Call) (n : ℕ) (figures : Figures) (room : List ℕ) → WriteStored (run r calls) n figures room
 

@@ -73,7 +73,7 @@ EveryChoiceCounts = (r : Record) (n millivolts : ℕ) → ChoiceCounts r n milli
 
 -- ---- "SOLW counts only if the interface is the chosen source"
 
--- a done SOLW, applied or by either road (what those of a recipe set: lines-set, in Changes.antt), changes what is in use under interface to the figure written, and under voltage not at all
+-- a done SOLW, applied or by either road (what those of a recipe set: lines_set, in Changes.antt), changes what is in use under interface to the figure written, and under voltage not at all
 pub record Counts (r : Record) (n : ℕ) (figures : SetpointFigures) (left : Record) : Type 0 where
   pub by_interface : (zone_at r n).origin.source ≡ Interface → InUse left n figures.setpoint
   pub under_voltage : (zone_at r n).origin.source ≡ Voltage → (setpoint : ℕ) → InUse r n setpoint → InUse left n setpoint

@@ -24,7 +24,7 @@ numbers (HzbgLimit f) = f.time ∷ []
 numbers (RrueReference f) = f.flag ∷ f.lower ∷ f.upper ∷ []
 numbers (SolwSetpoint f) = f.setpoint ∷ []
 
--- and back: the figures of a form with those numbers (made-again and numbers-again, in proofs/Made.antt)
+-- and back: the figures of a form with those numbers (made_again and numbers_again, in proofs/Made.antt)
 abbrev pub made : Form → List ℕ → Figures
 made deadline ns = AhueDeadline (record { flag = get_or ns 0 0; lower = get_or ns 1 0; upper = get_or ns 2 0; time = get_or ns 3 0 })
 made window ns = AhueWindow (record { flag = get_or ns 0 0; lower = get_or ns 1 0; upper = get_or ns 2 0; begin = get_or ns 3 0; end = get_or ns 4 0 })
@@ -37,7 +37,7 @@ pub record Entry : Type 0 where
   pub column : Column
   pub number : ℕ
 
--- column by column; there are as many numbers as columns (as-many, in proofs/Table.antt)
+-- column by column; there are as many numbers as columns (as_many, in proofs/Table.antt)
 abbrev pub entries : List Column → List ℕ → List Entry
 entries [] ns = []
 entries (k ∷ ks) [] = []

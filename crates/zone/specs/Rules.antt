@@ -1,4 +1,4 @@
--- Document 01's rules of what is written, as statements about a zone before and after. proofs/Written.antt proves them of the definitions: sets-figures, sets-status and, of document 02, sets-origin (Req 08) and sets-kilograms (Req 07). At the end those of Req 06, how Req 08 rounds, and what Req 10 says of one zone.
+-- Document 01's rules of what is written, as statements about a zone before and after. proofs/Written.antt proves them of the definitions: sets_figures, sets_status and, of document 02, sets_origin (Req 08) and sets_kilograms (Req 07). At the end those of Req 06, how Req 08 rounds, and what Req 10 says of one zone.
 use Rattle.std.specs.Prelude.{ℕ, ◌+◌, ◌*◌, ◌≤◌, ◌<◌, ◌≡◌, ◌↔◌, false}
 use Rattle.zone.specs.declared.figures.Group.{Group}
 use Rattle.zone.specs.declared.figures.Figures.{Figures}

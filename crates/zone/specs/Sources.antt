@@ -18,7 +18,7 @@ abbrev pub is_interface : Source → Bool
 is_interface Interface = true
 is_interface Voltage = false
 
--- as a test: an origin that passes it is new_origin (origin-new, in proofs/Sound.antt)
+-- as a test: an origin that passes it is new_origin (origin_new, in proofs/Sound.antt)
 abbrev pub is_new : Origin → Bool
 is_new origin = is_interface origin.source && is_zero origin.millivolts
 

@@ -54,7 +54,7 @@ layout rrue = record { group = Rrue; columns = column flag 0 1 ∷ column limit 
 -- setpoint
 layout solw = record { group = Solw; columns = setpoint ∷ [] }
 
--- the forms of a group, as the layouts have it (their-group, in proofs/Made.antt)
+-- the forms of a group, as the layouts have it (their_group, in proofs/Made.antt)
 abbrev pub forms_of : Group → List Form
 forms_of Ahue = deadline ∷ window ∷ []
 forms_of Hzbg = hzbg ∷ []

@@ -99,7 +99,7 @@ is_deadline (Window f) = false
 abbrev pub groups_zero : Zone → Bool
 groups_zero z = every (λ group. all_zero (figures_of z group)) every_group
 
--- "An absent zone holds nothing", as a test: an absent zone that passes it is empty_zone (absent-empty, in proofs/Sound.antt)
+-- "An absent zone holds nothing", as a test: an absent zone that passes it is empty_zone (absent_empty, in proofs/Sound.antt)
 abbrev pub holds_nothing : Zone → Bool
 holds_nothing z = is_zero z.address && is_zero z.range && is_zero z.status.actual && is_zero z.kilograms && (groups_zero z && is_off z.status.state && is_deadline z.watch && is_new z.origin)
 
