@@ -115,7 +115,7 @@ pub record Folds (r : Record) (a b : ℕ) (after : Record) : Type 0 where
   pub others : (m : ℕ) → (m ≡ a → ⊥) → (m ≡ b → ⊥) → zone_at after m ≡ zone_at r m
 
 -- "the search ends at the first zone that holds it".
--- found_first and found_nowhere, in proofs/Found.antt: find answers zone n if and only if this holds, and none if and only if no zone holds the address
+-- found_first and found_nowhere, in proofs/Finding.antt: find answers zone n if and only if this holds, and none if and only if no zone holds the address
 pub record FirstToHold (r : Record) (address n : ℕ) : Type 0 where
   pub here : holds address (zone_at r n) ≡ true
   pub earlier : (m : ℕ) → m < n → holds address (zone_at r m) ≡ false
