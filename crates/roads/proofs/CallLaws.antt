@@ -1,6 +1,6 @@
 -- How the functions of a call come to what the definition says. Assumes nothing.
 use Prim.Native.Nat.{ℕ, ◌≤◌, ◌<◌}
-use mathlib.Core.Path.{◌≡◌, refl, ap, ◌∙◌}
+use mathlib.Core.Path.{◌≡◌, refl, sym, ap, ◌∙◌}
 use mathlib.Core.Bool.{Bool, true, false, cond, not, ◌||◌}
 use mathlib.Core.List.{List, [], ◌∷◌}
 use native.Mathlib.Omega.{arith}
@@ -30,7 +30,7 @@ use Rattle.frame.specs.declared.reading.Framed.TheVariants.{NoFrame, BadSum, Req
 use Rattle.frame.specs.Frame.{shaped, body_in, address_in, checksum_right, body_read, frame_read}
 use Rattle.roads.specs.declared.calls.Replied.{Replied}
 use Rattle.roads.specs.Acknowledgements.{text_reply, frame_reply}
-use Rattle.roads.specs.Calls.{replied_seen, said, too_small, parsed_rows, text_result, in_text_reply, answer_text, place_by, text_place, zone_found, holder, result_at, frame_result, in_frame_reply, answer_frame}
+use Rattle.roads.specs.Calls.{replied_seen, said, too_small, parsed_rows, text_result, in_text_reply, answer_text, place_by, text_place, is_nowhere, zone_found, holder, result_at, frame_result, in_frame_reply, answer_frame}
 use Rattle.roads.specs.Inner.{asked_by, place_found, silent_of, frame_at}
 use Rattle.roads.proofs.Seen.{said_of}
 
@@ -146,8 +146,20 @@ module _ (r : Record) (f room : List ℕ) (h : 32 ≤ length room) (s : shaped f
       by_sound false k = refl
 
   pub held_right : (n : ℕ) → find_of r (address_in f) ≡ At n → checksum_right f ≡ true → ask_of r n (asked_by (body_read (body_in f))) ≡ frame_result r f room
-  held_right n e c = parsed_asked r n (body_read (body_in f)) ∙ rw (le-ltb (length room) 32 h, s, e, c) (by_sound (sound r) refl)
+  held_right n e c = parsed_asked r n (body_read (body_in f)) ∙ by_sound (sound r) refl ∙ sym passed
     where
+      -- past the tests that the frame passes: 1, 4, 5 and 6
+      passed : frame_result r f room ≡ result_at r n ((not (sound r) gives 2) ∷ parsed_rows (zone_at r n) (body_read (body_in f))) (body_read (body_in f))
+      passed = λ i.
+          result_at r (zone_found (e i))
+          ((le-ltb (length room) 32 h i gives 1)
+          ∷ (not (sound r) gives 2)
+          ∷ (not (s i) gives 4)
+          ∷ (is_nowhere (e i) gives 5)
+          ∷ (not (c i) gives 6)
+          ∷ parsed_rows (zone_at r (zone_found (e i))) (body_read (body_in f)))
+          (body_read (body_in f))
+
       by_sound : (t : Bool) → sound r ≡ t
           → result_at r n ((not t gives 2) ∷ (no_zone r n gives 3) ∷ parsed_rows (zone_at r n) (body_read (body_in f))) (body_read (body_in f))
           ≡ result_at r n ((not t gives 2) ∷ parsed_rows (zone_at r n) (body_read (body_in f))) (body_read (body_in f))

@@ -3,6 +3,7 @@ use Prim.Native.Nat.{ℕ}
 use mathlib.Core.Path.{◌≡◌, sym, ap, ◌∙◌}
 use mathlib.Core.List.{List}
 use contract.Lifetimes.{Lfts}
+use denote.MutBor.{MutBor}
 use denote.Ref.{Bor}
 use Rattle.zone.specs.declared.figures.Command.{Command}
 use Rattle.card.specs.declared.records.Record.{Record}
@@ -28,18 +29,18 @@ one_composed o o' l l' e =
     let n = ap (λ (x : Said). x.length) e in
     ((λ i. record { answer = a i; length = n i }), ap (λ (x : Said). x.room) e)
 
-pub text_unique : (κs : Lfts 2) (r : Record) (n : ℕ) (line room x x' : Bor (List ℕ)) (o o' : Replied)
+pub text_unique : (κs : Lfts 2) (r : Record) (n : ℕ) (line : Bor (List ℕ)) (room x x' : MutBor (List ℕ)) (o o' : Replied)
     → text.Post κs (r, (n, (line, (room, tt)))) o (r, (n, (line, (x, tt)))) → text.Post κs (r, (n, (line, (room, tt)))) o' (r, (n, (line, (x', tt)))) → (o ≡ o') × (x.now ≡ x'.now)
 text_unique κs r n line room x x' o o' p q = one_reply o o' x.now x'.now (p.0 ∙ sym q.0) (p.1 ∙ sym q.1)
 
-pub frame_unique : (κs : Lfts 2) (r : Record) (bytes room x x' : Bor (List ℕ)) (o o' : Replied)
+pub frame_unique : (κs : Lfts 2) (r : Record) (bytes : Bor (List ℕ)) (room x x' : MutBor (List ℕ)) (o o' : Replied)
     → frame.Post κs (r, (bytes, (room, tt))) o (r, (bytes, (x, tt))) → frame.Post κs (r, (bytes, (room, tt))) o' (r, (bytes, (x', tt))) → (o ≡ o') × (x.now ≡ x'.now)
 frame_unique κs r bytes room x x' o o' p q = one_reply o o' x.now x'.now (p.0 ∙ sym q.0) (p.1 ∙ sym q.1)
 
-pub compose_line_unique : (κs : Lfts 1) (c : Command) (room x x' : Bor (List ℕ)) (o o' : Composed)
+pub compose_line_unique : (κs : Lfts 1) (c : Command) (room x x' : MutBor (List ℕ)) (o o' : Composed)
     → compose-line.Post κs (c, (room, tt)) o (c, (x, tt)) → compose-line.Post κs (c, (room, tt)) o' (c, (x', tt)) → (o ≡ o') × (x.now ≡ x'.now)
 compose_line_unique κs c room x x' o o' p q = one_composed o o' x.now x'.now (p ∙ sym q)
 
-pub compose_frame_unique : (κs : Lfts 1) (address : ℕ) (c : Command) (room x x' : Bor (List ℕ)) (o o' : Composed)
+pub compose_frame_unique : (κs : Lfts 1) (address : ℕ) (c : Command) (room x x' : MutBor (List ℕ)) (o o' : Composed)
     → compose-frame.Post κs (address, (c, (room, tt))) o (address, (c, (x, tt))) → compose-frame.Post κs (address, (c, (room, tt))) o' (address, (c, (x', tt))) → (o ≡ o') × (x.now ≡ x'.now)
 compose_frame_unique κs address c room x x' o o' p q = one_composed o o' x.now x'.now (p ∙ sym q)

@@ -1,0 +1,18 @@
+-- By what was found: nobody, in silence; or the zone that is asked, whose reply is put into the room.
+use mathlib.Core.Path.{refl, sym, ◌∙◌}
+use Rattle.roads.specs.Inner.{frame_at}
+use Rattle.roads.proofs.CallLaws.{silent_place, frame_answer}
+use Rattle.roads.proofs.calls.to_holder.Goals as goal
+
+pub returns-in-Nowhere : goal.returns-in-Nowhere
+unfolding frame_at
+returns-in-Nowhere c = (rw (c.silent.ensures, sym c.find.ensures ∙ c.in-Nowhere.is), rw c.silent.ensures (silent_place _ _))
+
+pub returns-in-At : goal.returns-in-At
+unfolding frame_at
+returns-in-At c =
+    let a = c.args in (
+      rw (sym c.find.ensures ∙ c.in-At.is)
+          (frame_answer a.r c.in-At.zone a.address a.asked a.room.now _ _ c.ask-outcome.result c.ask-outcome.ensures c.put_frame-length.ensures),
+      refl,
+    )
