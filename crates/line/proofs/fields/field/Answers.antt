@@ -2,7 +2,7 @@
 use mathlib.Core.Path.{sym}
 use Prim.Native.Nat.{◌+◌}
 use native.Mathlib.Omega.{arith}
-use Rattle.line.proofs.FieldLaws.{word_stop, word_step, word_past, part_none, part_whole}
+use Rattle.line.proofs.FieldLaws.{word_stop, word_step, word_past, part_whole}
 use borrow.Author.Rules.{rules}
 use Rattle.line.proofs.fields.field.Goals as goal
 
