@@ -44,7 +44,7 @@ module _ (room reply : List ℕ) (at width : ℕ) (fits : at + width ≤ length 
 -- as the code puts it: all of the room from `at` on is lent, and comes back
 put_part : (room reply part : List ℕ) (at n : ℕ) → at + length reply ≤ length room → Filled reply (take (length room - at) (drop at room)) part n
     → put_mid at (length room - at) room part ≡ placed room at reply
-put_part room reply part at n fits f = lent_part room reply part at fits (rw (take-length reply) f.contents)
+put_part room reply part at n fits f = lent_part room reply part at fits f.contents
 
 -- ---- the replies and their lengths, before and after a turn
 
