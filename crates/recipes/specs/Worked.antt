@@ -58,7 +58,7 @@ pub record Worked : Type 0 where
   -- a lone line feed ends a line of nothing
   pub lone_line_feed : loading "\n" ≡ refused 14 0 0
   -- a leading zero is no decimal
-  pub leading_zero_lem : loading "05\tLHZBG" ≡ refused 14 0 0
+  pub leading_zero : loading "05\tLHZBG" ≡ refused 14 0 0
   -- 16 is a zone above 15, 1 an absent one
   pub above_fifteen : loading "16\tLHZBG" ≡ refused 3 1 0
   pub absent : loading "0\tLHZBG\n1\tLHZBG\n" ≡ refused 3 2 0

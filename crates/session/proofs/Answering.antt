@@ -251,9 +251,9 @@ same_room r (quiet call) = refl
 
 pub answers : EveryCallAnswers
 answers r call = record {
-  numbered = rw (first_given r call) (first_listed (refusals r call) (order call) (in_order_lem r call));
+  numbered = ap (λ (n : ℕ). among n (0 ∷ order call)) (first_given r call) ∙ first_listed (refusals r call) (order call) (in_order_lem r call);
   exactly = exactly r call;
-  in_order_lem = in_order_lem r call;
+  in_order = in_order_lem r call;
   refused = refused r call;
   same_room = same_room r call;
 }

@@ -152,4 +152,4 @@ reads_back a c room = record {
 }
 
 pub differ : AcknowledgementsDiffer
-differ a b = record { in_text_lem = texts_differ a b; in_frames = bytes_differ a b }
+differ a b = record { in_text = texts_differ a b; in_frames = bytes_differ a b }

@@ -34,7 +34,7 @@ use Rattle.roads.proofs.Local.{text_local, frame_local, text_touches, frame_touc
 use Rattle.session.specs.Sessions.{Done}
 use Rattle.session.specs.Demands.{Present}
 use Rattle.session.specs.Inputs.{Input, on_port, on_pair, sent, next, Heard, heard}
-use Rattle.session.specs.Order.{request_in, input_read, IsWrite, IsRead, goes_to, SameGroupOfOneZone, Commute, WritesCommute, NowhereCommutes, RefusedCommutes, TheLastStands, Has, SameZones, ZonesStay, WritesInAnyOrder, InTheWay, both_write, write_read_lem, read_write, OthersCommute, InAnyOrder, AsAtFirst}
+use Rattle.session.specs.Order.{request_in, input_read, IsWrite, IsRead, goes_to, SameGroupOfOneZone, Commute, WritesCommute, NowhereCommutes, RefusedCommutes, TheLastStands, Has, SameZones, ZonesStay, WritesInAnyOrder, InTheWay, both_write, write_read, read_write, OthersCommute, InAnyOrder, AsAtFirst}
 use Rattle.session.proofs.Answering.{record_kept, by_done}
 use Rattle.session.proofs.Done.{line_is_done, frame_is_done}
 use Rattle.session.proofs.Changes.{by_zone, text_after, frame_after, after_of, command_is}
@@ -210,7 +210,7 @@ same_group_at_start {r} {s} same {x} {y} o = record {
 
 in_the_way_at_start : {r s : Record} → SameZones r s → {x y : Input} → InTheWay s x y → InTheWay r x y
 in_the_way_at_start same (both_write f g p q o) = both_write f g p q (same_group_at_start same o)
-in_the_way_at_start same (write_read_lem f h p q o) = write_read_lem f h p q (same_group_at_start same o)
+in_the_way_at_start same (write_read f h p q o) = write_read f h p q (same_group_at_start same o)
 in_the_way_at_start same (read_write h g p q o) = read_write h g p q (same_group_at_start same o)
 
 -- ---- what is heard of an input behind another
@@ -281,7 +281,7 @@ others_commute r x y apart = record { same_record = by_effects (effect r x) (eff
     first = same_heard r y x (λ d h q w. apart (read_write h w.figures q w.is_write (record { zone = sym w.zone; there = w.there; group = sym w.group })))
 
     second : heard (next r x) y ≡ heard r y
-    second = same_heard r x y (λ d h q w. apart (write_read_lem w.figures h w.is_write q (record { zone = w.zone; there = ap (no_zone r) w.zone ∙ w.there; group = w.group })))
+    second = same_heard r x y (λ d h q w. apart (write_read w.figures h w.is_write q (record { zone = w.zone; there = ap (no_zone r) w.zone ∙ w.there; group = w.group })))
 
     by_effects : Effect r x → Effect r y → next (next r x) y ≡ next (next r y) x
     by_effects (idle u) b = ap (λ (s : Record). next s y) (idle_kept r x u) ∙ sym (idle_too r (next r y) x first u)
@@ -306,7 +306,7 @@ others_commute r x y apart = record { same_record = by_effects (effect r x) (eff
 -- two writes are in each other's way in one group of one zone alone
 writes_in_the_way : {r : Record} {x y : Input} {f g : Figures} → IsWrite x f → IsWrite y g → InTheWay r x y → SameGroupOfOneZone r x y (group_of f) (group_of g)
 writes_in_the_way p q (both_write f g p' q' o) = record { zone = o.zone; there = o.there; group = ap group_of (write_one (sym p ∙ p')) ∙ o.group ∙ ap group_of (write_one (sym q' ∙ q)) }
-writes_in_the_way p q (write_read_lem f h p' q' o) = absurd (read_or_write (sym q' ∙ q))
+writes_in_the_way p q (write_read f h p' q' o) = absurd (read_or_write (sym q' ∙ q))
 writes_in_the_way p q (read_write h g p' q' o) = absurd (read_or_write (sym p' ∙ p))
 
 pub writes_commute : WritesCommute
@@ -318,13 +318,13 @@ nowhere_commutes r x y (inl e) = others_commute r x y (λ w. never (sym (there w
   where
     there : InTheWay r x y → no_zone r (goes_to r x) ≡ false
     there (both_write f g p q o) = o.there
-    there (write_read_lem f h p q o) = o.there
+    there (write_read f h p q o) = o.there
     there (read_write h g p q o) = o.there
 nowhere_commutes r x y (inr u) = others_commute r x y no_command
   where
     no_command : InTheWay r x y → ⊥
     no_command (both_write f g p q o) = u (Write f) p
-    no_command (write_read_lem f h p q o) = u (Write f) p
+    no_command (write_read f h p q o) = u (Write f) p
     no_command (read_write h g p q o) = u (Read h) p
 
 -- what is refused is idle, and the record is the same with it and without

@@ -22,6 +22,7 @@ module _ {C : Type 0} where
   has_it (b ∷ bs) back x = inr (has_it bs back x)
 
   pub has_front : (front back : List C) (z : C) → Has front z → Has (front ++ back) z
+  has_front [] back z h = elim h [ ]
   has_front (b ∷ bs) back z (inl e) = inl e
   has_front (b ∷ bs) back z (inr h) = inr (has_front bs back z h)
 
@@ -31,6 +32,7 @@ module _ {C : Type 0} where
   before_more (b ∷ bs) back x y z (inr h) = inr (before_more bs back x y z h)
 
   pub before_it : (front back : List C) (x z : C) → Has front z → Before (front ++ x ∷ back) z x
+  before_it [] back x z h = elim h [ ]
   before_it (b ∷ bs) back x z (inl e) = inl (e, has_it bs back x)
   before_it (b ∷ bs) back x z (inr h) = inr (before_it bs back x z h)
 
@@ -43,10 +45,12 @@ module _ {C : Type 0} where
   -- ---- of two, both are there
 
   pub has_former : (l : List C) (y z : C) → Before l y z → Has l y
+  has_former [] y z h = elim h [ ]
   has_former (b ∷ bs) y z (inl (e, h)) = inl e
   has_former (b ∷ bs) y z (inr h) = inr (has_former bs y z h)
 
   pub has_latter : (l : List C) (y z : C) → Before l y z → Has l z
+  has_latter [] y z h = elim h [ ]
   has_latter (b ∷ bs) y z (inl (e, h)) = inr h
   has_latter (b ∷ bs) y z (inr h) = inr (has_latter bs y z h)
 
@@ -58,5 +62,6 @@ module _ {C : Type 0} where
     pub split : l ≡ front ++ x ∷ back
 
   pub found : (l : List C) (x : C) → Has l x → Stands l x
+  found [] x h = elim h [ ]
   found (z ∷ zs) x (inl e) = record { front = []; back = zs; split = ap (λ (y : C). y ∷ zs) e }
   found (z ∷ zs) x (inr h) = let a = found zs x h in record { front = z ∷ a.front; back = a.back; split = ap (λ (l : List C). z ∷ l) a.split }

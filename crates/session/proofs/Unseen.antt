@@ -1,6 +1,6 @@
 -- What is answered to all calls but those of Req 08 does not hang on the sources: two sound records that differ in source and input alone are answered alike, and left so. Assumes nothing.
 use Prim.Native.Nat.{ℕ, ◌+◌}
-use mathlib.Core.Path.{◌≡◌, refl, sym, ap, ◌∙◌}
+use mathlib.Core.Path.{◌≡◌, refl, sym, ap, subst, ◌∙◌}
 use mathlib.Core.Bool.{Bool, true, false, cond, not, ◌&&◌, ◌||◌}
 use mathlib.Core.List.{List, [], ◌∷◌, map, ◌++◌}
 use lib.ListN.{set, length-map, get_or-map, take, drop}
@@ -18,6 +18,7 @@ use Rattle.zone.specs.Sources.{new_origin}
 use Rattle.zone.specs.Zones.{empty_zone, holds, figures_of, address_in_range, range_known, booking_in_range, with_figures, with_origin, with_kilograms}
 use Rattle.zone.proofs.Tests.{never}
 use Rattle.zone.proofs.Written.{same_groups}
+use Rattle.card.specs.declared.records.Found.{Found}
 use Rattle.card.specs.declared.records.Record.{Record}
 use Rattle.card.specs.Answers.{Result}
 use Rattle.card.specs.Refusals.{Row, ◌gives◌, first, settled}
@@ -32,7 +33,7 @@ use Rattle.wire.specs.declared.Parsed.{Parsed}
 use Rattle.wire.specs.declared.Parsed.TheVariants.{Known, Unknown, Syntax}
 use Rattle.line.specs.Line.{line_read}
 use Rattle.frame.specs.Frame.{address_in, body_in, body_read}
-use Rattle.roads.specs.Calls.{Said, Answered, said, parsed_at, text_result, answer_text, text_place, zone_found, holder, frame_result, answer_frame}
+use Rattle.roads.specs.Calls.{Said, Answered, said, parsed_at, text_result, answer_text, text_place, zone_found, holder, result_at, frame_rows, frame_result, answer_frame}
 use Rattle.roads.specs.Rules.{JudgesAlike}
 use Rattle.roads.proofs.Local.{text_rows_lem, frame_rows_lem, text_local, frame_local}
 use Rattle.texts.specs.Texts.{lines_of}
@@ -154,7 +155,8 @@ module _ {r r' : Record} (a : Alike r r') where
       let p = body_read (body_in bytes) in
       let n = zone_found (holder r bytes) in
       let e = same_found a (address_in bytes) in
-      rw (← e) (stored_seen n (λ z. parsed_at z p) (parsed_blind p) _ _ (rw (← e) at (frame_rows_lem r r' bytes room (same_sound a) e (judges_alike n))))
+      let rows = frame_rows_lem r r' bytes room (same_sound a) e (judges_alike n) in
+      subst (λ (m : Found). Seen (frame_result r bytes room) (result_at r' (zone_found m) (frame_rows r' bytes room) p)) e (stored_seen n (λ z. parsed_at z p) (parsed_blind p) _ _ rows)
 
   -- what a line is answered, and its place
   text_answered : (n : ℕ) (line room : List ℕ) → ((answer_text r n line room).said ≡ (answer_text r' n line room).said) × (text_place r n line room ≡ text_place r' n line room)

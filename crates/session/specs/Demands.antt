@@ -108,7 +108,7 @@ pub record EndsWell (r : Record) (call : Call) : Type 0 where
   pub numbered : among (answer_to r call).said.number (0 ∷ order call) ≡ true
   -- "Given exactly when" and "Where several apply, the first in the call's order is given" (document 01): each number exactly where its test holds and no earlier one does, 0 exactly where none holds, and the numbers stand in the printed order
   pub exactly : ExactlyWhen (refusals r call) (answer_to r call).said.number
-  pub in_order_lem : InOrder (refusals r call) (order call)
+  pub in_order : InOrder (refusals r call) (order call)
   -- "A refused call leaves the record as it was and writes nothing but the acknowledgement fixed there." It tells no figures, and the room keeps its contents behind the acknowledgement. (That a refused repair tells no old ends: RepairRefused, in card/specs/Rules.antt)
   pub refused : (Done r call → ⊥) → answer_to r call ≡ record { said = said (answer_to r call).said.number [] (fixed call (answer_to r call).said.number) (lent call); after = r }
   -- whatever is answered fits the room, which keeps its length
@@ -265,7 +265,7 @@ ComposedReadsBack = (address : ℕ) (command : Command) (room : List ℕ) → Re
 
 -- "In each section the five acknowledgements, OK included, have to differ" (document 01).
 pub record Differ (a b : Acknowledgement) : Type 0 where
-  pub in_text_lem : text_of a ≡ text_of b → a ≡ b
+  pub in_text : text_of a ≡ text_of b → a ≡ b
   pub in_frames : function_of a ≡ function_of b → a ≡ b
 
 -- `differ`, in proofs/Demand2.antt

@@ -151,7 +151,7 @@ WritesInAnyOrder = (r : Record) (xs ys : List Numbered) → ((x : Numbered) → 
 -- With reads, and with lines and frames of every other kind: two are in each other's way where they go to the same group of one zone and at least one of them writes it
 pub data InTheWay (r : Record) (x y : Input) : Type 0 where
   both_write : (f g : Figures) → IsWrite x f → IsWrite y g → SameGroupOfOneZone r x y (group_of f) (group_of g) → InTheWay r x y
-  write_read_lem : (f : Figures) (h : Group) → IsWrite x f → IsRead y h → SameGroupOfOneZone r x y (group_of f) h → InTheWay r x y
+  write_read : (f : Figures) (h : Group) → IsWrite x f → IsRead y h → SameGroupOfOneZone r x y (group_of f) h → InTheWay r x y
   read_write : (h : Group) (g : Figures) → IsRead x h → IsWrite y g → SameGroupOfOneZone r x y h (group_of g) → InTheWay r x y
 
 -- any two others commute; WritesCommute and NowhereCommutes are cases of it. `others_commute`, in proofs/Order.antt
