@@ -27,7 +27,7 @@ use Rattle.saying.specs.Inner.{Appended}
 -- ---- one line after the other
 
 index_within : (t : List ℕ) → index_of line_feed t ≤ length t
-unfolding index_of index_after
+unfolding index_of
 index_within [] = omega arith
 index_within (x ∷ t) = by_test (eqb x line_feed) (λ e. rw e (omega arith)) (λ e. rw e (omega (arith, index_within t)))
 

@@ -5,7 +5,6 @@ use mathlib.Core.Bool.{Bool, true, false, cond}
 use mathlib.Core.List.{List, []}
 use native.Mathlib.Omega.{arith}
 use lib.ListN.{get_or}
-use borrow.Author.Tests.{not-true, not-false}
 use Rattle.zone.specs.declared.figures.Figures.{Figures}
 use Rattle.zone.specs.declared.figures.Figures.TheVariants.{AhueDeadline, AhueWindow, HzbgLimit, RrueReference, SolwSetpoint}
 use Rattle.zone.specs.declared.figures.Ranged.{Ranged}
@@ -14,9 +13,7 @@ use Rattle.zone.specs.Inner.{five, five_fit}
 use Rattle.saying.specs.Saying.{range_missed}
 use Rattle.saying.specs.Inner.{Appended, range_in}
 use Rattle.saying.proofs.Growing.{none}
-use borrow.Author.Rules.{rules}
-use Rattle.saying.proofs.saying.append_first_missed.Statement.{statement}
-use Rattle.saying.proofs.saying.append_first_missed.Tie as tie
+use Rattle.saying.proofs.saying.append_first_missed.Goals as goal
 
 -- ---- by the tests of the five, and their ranges
 
@@ -63,75 +60,20 @@ module _ (d : Ranged) (range : ℕ) (f : Figures) (fits : List Bool) (row : List
   no_one : get_or fits 0 false ≡ true → get_or fits 1 false ≡ true → get_or fits 2 false ≡ true → get_or fits 3 false ≡ true → get_or fits 4 false ≡ true → Appended [] o p at n → Appended (range_missed range (entries_of f)) o p at n
   no_one t1 t2 t3 t4 t5 a = chosen [] (rw (t1, t2, t3, t4, t5)) a
 
-returns : tie.Need-returns
-returns c =
-    let p = c.before.before in
-    let q = p.before.before.before in
-    let r = q.before in
-    (first _ _ r.before.before.before.args.figures _ _ r.fits2.ensures r.before.row.ensures (not-true _ q.if1.true) p.append-range.ensures.0, p.append-range.ensures.1)
+pub returns-then-not-fits-clause-appended : goal.returns-then-not-fits-clause-appended
+returns-then-not-fits-clause-appended c = first _ _ c.args.figures _ _ c.fits-fits.ensures c.row-row.ensures c.if-not-fits.true c.append_range.ensures.appended
 
-returns-2 : tie.Need-returns-2
-returns-2 c =
-    let p = c.before.before in
-    let q = p.before.before.before in
-    let r = q.before.before in
-    (second _ _ r.before.before.before.args.figures _ _ r.fits2.ensures r.before.row.ensures (not-false _ q.before.if1.false) (not-true _ q.if2.true) p.append-range2.ensures.0, p.append-range2.ensures.1)
+pub returns-then-not-fits-2-clause-appended : goal.returns-then-not-fits-2-clause-appended
+returns-then-not-fits-2-clause-appended c = second _ _ c.args.figures _ _ c.fits-fits.ensures c.row-row.ensures c.if-not-fits.false c.if-not-fits-2.true c.append_range-then-not-fits-2.ensures.appended
 
-returns-3 : tie.Need-returns-3
-returns-3 c =
-    let p = c.before.before in
-    let q = p.before.before.before in
-    let r = q.before.before.before in
-    (third _ _ r.before.before.before.args.figures _ _ r.fits2.ensures r.before.row.ensures (not-false _ q.before.before.if1.false) (not-false _ q.before.if2.false) (not-true _ q.if3.true) p.append-range3.ensures.0, p.append-range3.ensures.1)
+pub returns-then-not-fits-3-clause-appended : goal.returns-then-not-fits-3-clause-appended
+returns-then-not-fits-3-clause-appended c = third _ _ c.args.figures _ _ c.fits-fits.ensures c.row-row.ensures c.if-not-fits.false c.if-not-fits-2.false c.if-not-fits-3.true c.append_range-then-not-fits-3.ensures.appended
 
-returns-4 : tie.Need-returns-4
-returns-4 c =
-    let p = c.before.before in
-    let q = p.before.before.before in
-    let r = q.before.before.before.before in
-    (fourth _ _ r.before.before.before.args.figures _ _ r.fits2.ensures r.before.row.ensures (not-false _ q.before.before.before.if1.false) (not-false _ q.before.before.if2.false) (not-false _ q.before.if3.false) (not-true _ q.if4.true) p.append-range4.ensures.0, p.append-range4.ensures.1)
+pub returns-then-not-fits-4-clause-appended : goal.returns-then-not-fits-4-clause-appended
+returns-then-not-fits-4-clause-appended c = fourth _ _ c.args.figures _ _ c.fits-fits.ensures c.row-row.ensures c.if-not-fits.false c.if-not-fits-2.false c.if-not-fits-3.false c.if-not-fits-4.true c.append_range-then-not-fits-4.ensures.appended
 
-returns-5 : tie.Need-returns-5
-returns-5 c =
-    let p = c.before.before in
-    let q = p.before.before.before in
-    let r = q.before.before.before.before.before in
-    (fifth _ _ r.before.before.before.args.figures _ _ r.fits2.ensures r.before.row.ensures (not-false _ q.before.before.before.before.if1.false) (not-false _ q.before.before.before.if2.false) (not-false _ q.before.before.if3.false) (not-false _ q.before.if4.false) (not-true _ q.if5.true) p.append-range5.ensures.0, p.append-range5.ensures.1)
+pub returns-then-not-fits-5-clause-appended : goal.returns-then-not-fits-5-clause-appended
+returns-then-not-fits-5-clause-appended c = fifth _ _ c.args.figures _ _ c.fits-fits.ensures c.row-row.ensures c.if-not-fits.false c.if-not-fits-2.false c.if-not-fits-3.false c.if-not-fits-4.false c.if-not-fits-5.true c.append_range-then-not-fits-5.ensures.appended
 
-returns-6 : tie.Need-returns-6
-returns-6 c =
-    let r = c.before.before.before.before.before in
-    (no_one (record { number = 0; lowest = 0; highest = 0 }) _ r.before.before.before.args.figures _ _ r.fits2.ensures r.before.row.ensures (not-false _ c.before.before.before.before.if1.false) (not-false _ c.before.before.before.if2.false) (not-false _ c.before.before.if3.false) (not-false _ c.before.if4.false) (not-false _ c.if5.false) (none _ _), omega arith)
-
-pub append-first-missed-spec : {M : Type 1} → statement M
-append-first-missed-spec =
-    tie.close
-    (tie.spec
-    (λ c κs. search rules)
-    (λ c κs. search rules)
-    (λ c. search rules)
-    (λ c. search rules)
-    (λ c κs. search rules)
-    (λ c. search rules)
-    returns
-    (λ c. search rules)
-    (λ c. search rules)
-    (λ c κs. search rules)
-    (λ c. search rules)
-    returns-2
-    (λ c. search rules)
-    (λ c. search rules)
-    (λ c κs. search rules)
-    (λ c. search rules)
-    returns-3
-    (λ c. search rules)
-    (λ c. search rules)
-    (λ c κs. search rules)
-    (λ c. search rules)
-    returns-4
-    (λ c. search rules)
-    (λ c. search rules)
-    (λ c κs. search rules)
-    (λ c. search rules)
-    returns-5
-    returns-6)
+pub returns-clause-appended : goal.returns-clause-appended
+returns-clause-appended c = no_one (record { number = 0; lowest = 0; highest = 0 }) _ c.args.figures _ _ c.fits-fits.ensures c.row-row.ensures c.if-not-fits.false c.if-not-fits-2.false c.if-not-fits-3.false c.if-not-fits-4.false c.if-not-fits-5.false (none _ _)
