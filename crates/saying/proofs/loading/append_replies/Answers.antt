@@ -1,8 +1,6 @@
 -- A line is left, so that fewer than 64 have passed and its reply stands in the room; behind it stand the replies to the lines after it.
-use Prim.Native.Nat.{◌+◌, ◌*◌, ◌≤◌, ◌<◌}
-use mathlib.Core.Path.{◌≡◌}
 use native.Mathlib.Omega.{arith}
-use lib.ListN.{length, get_or, length-take}
+use lib.ListN.{length-take}
 use Rattle.saying.proofs.Growing.{behind, none}
 use Rattle.saying.proofs.Recipe.{end_within, one_fewer, reply_then, no_reply, reply_part}
 use Rattle.saying.proofs.loading.append_replies.Goals as goal
