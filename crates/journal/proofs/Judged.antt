@@ -90,7 +90,9 @@ held_at r address n what e = by_sound (sound r) refl
     by_sound true k =
         let there : no_zone r n ≡ false = found_there r address n k e in
         let below : n < 16 = leb-false 16 n (neither (leb 16 n) (not (zone_at r n).present) there).0 in
-        rw (there, lt-ltb n 16 below)
+        let here : one_of_sixteen n ≡ n = rw (lt-ltb n 16 below) in
+        let there_at : settled r ((not true gives 2) ∷ (no_zone r n gives 3) ∷ (ask_at (zone_at r n) what).rows) (ask_at (zone_at r n) what).values (with_zone r n (ask_at (zone_at r n) what).after) ≡ at r n (unless ((not true gives 2) ∷ []) (ask_at (zone_at r n) what)) = rw there in
+        there_at ∙ ap (λ (p : ℕ). at r p (unless ((not true gives 2) ∷ []) (ask_at (zone_at r p) what))) (sym here)
 
 -- nobody holds the address: 5, whatever the frame brings
 nobody_at : (r : Record) (bytes : List ℕ) → shaped bytes ≡ true → find_of r (address_in bytes) ≡ Nowhere
@@ -127,10 +129,10 @@ frame_at r bytes = by_framed (frame_read bytes) refl
     by_framed NoFrame e = rw (no_shape bytes e) (shapeless (sound r))
     by_framed (BadSum a) e =
         let k = bad_sum bytes a e in
-        rw k.2 (by_holder_lem (BadSum a) (Failed refusal.Checksum) k.0 (λ f. refl) (λ n q. held_sum r bytes lent (omega arith) k.0 n q k.1) (find_of r (address_in bytes)) refl)
+        by_holder_lem (BadSum a) (Failed refusal.Checksum) k.0 (λ f. refl) (λ n q. held_sum r bytes lent (omega arith) k.0 n q k.1) (find_of r a) (ap (find_of r) (sym k.2))
     by_framed (Request a p) e =
         let k = right_sum bytes a p e in
-        rw k.2 (by_holder_lem (Request a p) (asked_by p) k.0 (λ f. refl) (λ n q. rw k.3 (held_right r bytes lent (omega arith) k.0 n q k.1)) (find_of r (address_in bytes)) refl)
+        by_holder_lem (Request a p) (asked_by p) k.0 (λ f. refl) (λ n q. rw k.3 (held_right r bytes lent (omega arith) k.0 n q k.1)) (find_of r a) (ap (find_of r) (sym k.2))
 
 -- ---- what a line yields, by what its call comes to
 

@@ -5,7 +5,7 @@ use mathlib.Core.List.{List, [], ◌∷◌, ◌++◌, append_assoc}
 use native.Mathlib.Omega.{arith}
 use native.Mathlib.Numerals.{add-one}
 use lib.ListN.{length, take, drop, set, length-append}
-use lib.Seq.{take-append_seam, take-length, drop-cons, set-append_seam, append_snoc}
+use lib.Seq.{take-append_seam, drop-cons, set-append_seam, append_snoc}
 use lib.Dec.{ltb}
 use borrow.Author.Tests.{lt-ltb, le-ltb}
 use borrow.Rule.Slice.PartMut.{put_mid}
@@ -138,7 +138,7 @@ module _ (head reply room between part : List ℕ) (k n v : ℕ) (fits : k + n <
   together : put_mid k (length between - k) between part ≡ filled (head ++ reply) room
   together =
       let h : k + length reply ≤ length between = omega (arith, g.count) in
-      lent_part between reply part k h (rw (take-length reply) g.contents) ∙ rw (f.contents, f.count) (placed_next head reply room)
+      lent_part between reply part k h g.contents ∙ rw (f.contents, f.count) (placed_next head reply room)
 
   counted : k + n ≡ length (head ++ reply)
   counted = rw length-append (omega (arith, f.count, g.count))

@@ -4,7 +4,7 @@ use mathlib.Core.Path.{◌≡◌, refl, ◌∙◌}
 use mathlib.Core.List.{List, [], ◌∷◌, ◌++◌, append_assoc, append-nil}
 use native.Mathlib.Omega.{arith}
 use lib.ListN.{length, take, drop, length-append}
-use lib.Seq.{take-length, length-take-le, take_at}
+use lib.Seq.{length-take-le, take_at}
 use borrow.Rule.Slice.PartMut.{put_mid}
 use Rattle.card.specs.declared.records.Record.{Record}
 use Rattle.wire.specs.Room.{placed, Filled}
@@ -23,7 +23,7 @@ unfolding placed
 written_on out l part filled k h f =
     let fits : filled + length l ≤ length out = omega (arith, f.count) in
     let front : length (take filled out ++ l) ≡ filled + k = rw (length-append, length-take-le filled out (omega arith)) (omega (arith, f.count)) in
-    rw (lent_part out l part filled fits (rw (take-length l) f.contents)) (take_at (take filled out ++ l) (drop (filled + length l) out) (filled + k) front)
+    rw (lent_part out l part filled fits f.contents) (take_at (take filled out ++ l) (drop (filled + length l) out) (filled + k) front)
 
 -- ---- the lines of a block, before and after a turn
 
@@ -41,8 +41,8 @@ pub ahead_turn : (given r r' : Record) (block written written' text text' line l
     → Ahead given block r' written' text'
 unfolding lines_yield
 ahead_turn given r r' block written written' text text' line l a e b y w = record {
-  after = a.after ∙ rw (e, y);
-  output = a.output ∙ rw (e, y, w, append_assoc written l (lines_yield r' (ended text')).output);
+  after = a.after ∙ rw (e, lines_yield, y);
+  output = a.output ∙ rw (e, lines_yield, y, w, append_assoc written l (lines_yield r' (ended text')).output);
   rest = a.rest ∙ b;
 }
 

@@ -6,7 +6,7 @@ use native.Mathlib.Omega.{arith}
 use lib.ListN.{length, take}
 use lib.Seq.{length-take-le}
 use contract.Lifetimes.{Lfts}
-use denote.Ref.{Bor}
+use denote.MutBor.{MutBor}
 use Rattle.card.specs.declared.records.Record.{Record}
 use Rattle.journal.specs.declared.blocks.Kept.{Kept}
 use Rattle.journal.specs.Blocks.{Fed, kept_seen}
@@ -16,7 +16,7 @@ use Rattle.journal.proofs.blocks.feed.Reads as feed
 same_count : (l l' : List ℕ) (n n' : ℕ) → n ≤ length l → n' ≤ length l' → take n l ≡ take n' l' → n ≡ n'
 same_count l l' n n' h h' e = sym (length-take-le n l h) ∙ ap length e ∙ length-take-le n' l' h'
 
-pub feed_unique : (κs : Lfts 2) (given : Record) (end : ℕ) (buffer out b b' x x' : Bor (List ℕ)) (o o' : Kept)
+pub feed_unique : (κs : Lfts 2) (given : Record) (end : ℕ) (buffer out b b' x x' : MutBor (List ℕ)) (o o' : Kept)
     → end ≤ length b.now → end ≤ length b'.now → 8 * end ≤ length x.now → 8 * end ≤ length x'.now
     → feed.Post κs (given, (buffer, (end, (out, tt)))) o (given, (b, (end, (x, tt))))
     → feed.Post κs (given, (buffer, (end, (out, tt)))) o' (given, (b', (end, (x', tt))))
