@@ -30,7 +30,7 @@ use Rattle.frame.specs.declared.reading.Framed.TheVariants.{NoFrame, BadSum, Req
 use Rattle.frame.specs.Frame.{shaped, body_in, address_in, checksum_right, body_read, frame_read}
 use Rattle.roads.specs.declared.calls.Replied.{Replied}
 use Rattle.roads.specs.Acknowledgements.{text_reply, frame_reply}
-use Rattle.roads.specs.Calls.{replied_seen, said, too_small, parsed_rows, text_result, in_text_reply, answer_text, place_by, text_place, is_nowhere, zone_found, holder, result_at, frame_result, in_frame_reply, answer_frame}
+use Rattle.roads.specs.Calls.{replied_seen, too_small, parsed_rows, text_result, in_text_reply, answer_text, place_by, text_place, is_nowhere, zone_found, holder, result_at, frame_result, in_frame_reply, answer_frame}
 use Rattle.roads.specs.Inner.{asked_by, place_found, silent_of, frame_at}
 use Rattle.roads.proofs.Seen.{said_of}
 

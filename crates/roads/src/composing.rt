@@ -30,6 +30,7 @@ fn done(length: usize) -> Composed
 }
 
 // The line of a command.
+#[tactic(auto, unfolding(crate::specs::Calls::composed_line))]
 pub fn compose_line(command: Command, room: &mut [u8]) -> Composed
     ensures { composed_seen result room.new ≡ composed_line command room.old }
 {
@@ -49,6 +50,7 @@ pub fn compose_line(command: Command, room: &mut [u8]) -> Composed
 }
 
 // The frame of a command to an address.
+#[tactic(auto, unfolding(crate::specs::Calls::composed_frame))]
 pub fn compose_frame(address: u32, command: Command, room: &mut [u8]) -> Composed
     ensures { composed_seen result room.new ≡ composed_frame address command room.old }
 {

@@ -1,15 +1,11 @@
 -- Each return is the definition's first row whose test holds; what passes both is put into the room.
 use mathlib.Core.List.{[]}
-use borrow.Author.Tests.{lt-ltb, le-ltb}
+use borrow.Author.Tests.{le-ltb}
 use Rattle.wire.specs.Road.{carries_command}
 use Rattle.line.specs.Line.{line_of}
 use Rattle.roads.specs.Calls.{composed_line}
 use Rattle.roads.proofs.Seen.{said_of}
 use Rattle.roads.proofs.composing.compose_line.Goals as goal
-
-pub returns-then-room-lt32 : goal.returns-then-room-lt32
-unfolding composed_line
-returns-then-room-lt32 c = rw (c.refused.ensures, lt-ltb _ _ c.if-room-lt32.true)
 
 pub returns-in-Read : goal.returns-in-Read
 unfolding composed_line carries_command
