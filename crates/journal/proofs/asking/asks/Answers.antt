@@ -13,21 +13,21 @@ pub returns-then-line-lt1 : goal.returns-then-line-lt1
 returns-then-line-lt1 c = rw (line_empty _ c.if-line-lt1.true)
 
 pub returns-in-78 : goal.returns-in-78
-returns-in-78 c = rw (line_letter _ c.if-line-gt600.false c.if-line-lt1.false, c.in-78.is) c.add.ensures
+returns-in-78 c = rw (line_letter c.args.line.now (omega arith) (omega arith), c.in-78.is) c.add.ensures
 
 pub returns-in-88 : goal.returns-in-88
-returns-in-88 c = rw (line_letter _ c.if-line-gt600.false c.if-line-lt1.false, c.in-88.is) c.remove.ensures
+returns-in-88 c = rw (line_letter c.args.line.now (omega arith) (omega arith), c.in-88.is) c.remove.ensures
 
 pub returns-in-77 : goal.returns-in-77
-returns-in-77 c = rw (line_letter _ c.if-line-gt600.false c.if-line-lt1.false, c.in-77.is) c.report.ensures
+returns-in-77 c = rw (line_letter c.args.line.now (omega arith) (omega arith), c.in-77.is) c.report.ensures
 
 pub returns-in-84 : goal.returns-in-84
-returns-in-84 c = rw (line_letter _ c.if-line-gt600.false c.if-line-lt1.false, c.in-84.is) c.text.ensures
+returns-in-84 c = rw (line_letter c.args.line.now (omega arith) (omega arith), c.in-84.is) c.text.ensures
 
 pub returns-in-70 : goal.returns-in-70
-returns-in-70 c = rw (line_letter _ c.if-line-gt600.false c.if-line-lt1.false, c.in-70.is) c.frame.ensures
+returns-in-70 c = rw (line_letter c.args.line.now (omega arith) (omega arith), c.in-70.is) c.frame.ensures
 
 pub returns-in_default : goal.returns-in_default
 returns-in_default c =
     let x = get_or c.args.line.now 0 0 in
-    rw (line_letter _ c.if-line-gt600.false c.if-line-lt1.false, ne_eqb x N (λ e. omega arith), ne_eqb x X (λ e. omega arith), ne_eqb x M (λ e. omega arith), ne_eqb x T (λ e. omega arith), ne_eqb x F (λ e. omega arith))
+    rw (line_letter c.args.line.now (omega arith) (omega arith), ne_eqb x N (λ e. omega arith), ne_eqb x X (λ e. omega arith), ne_eqb x M (λ e. omega arith), ne_eqb x T (λ e. omega arith), ne_eqb x F (λ e. omega arith))

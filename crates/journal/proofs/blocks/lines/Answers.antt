@@ -50,7 +50,7 @@ loop-values-preserved c =
     (turn_begun block t.at end t.invariant.0 c.line_end-end.ensures h)
     yields
     (written_on t.out _ _ t.filled k (omega arith) c.put_judged-filled.ensures.filled) in
-    (omega arith, within, search rules, search rules, sound_still, ahead)
+    (omega arith, omega (arith, within), search rules, search rules, sound_still, ahead)
 
 -- ---- the end of the block
 
