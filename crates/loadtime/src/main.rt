@@ -7,9 +7,10 @@
 // be left out: the record by the next call, the replies by the last write, the lengths by the room's last byte.
 #![tactic(auto)]
 
-ghost use Rattle.std.specs.Prelude.{◌≡◌, length};
+ghost use Rattle.std.specs.Prelude.{◌≡◌, ◌≤◌, length};
 
 use card::Record;
+use std::io::Read;
 use texts::{Addressed, line_end, zone_at};
 
 // The record, and what has become of the lengths of all replies so far.
@@ -115,34 +116,43 @@ fn rounds(kind: u8, count: usize, recipe: &[u8], room: &mut [u8]) -> usize
 }
 
 // What the first line says, done with the rest. No reply is 32 bytes long: the last byte of the room is free.
-fn do_as_told(input: &[u8], room: &mut [u8])
+fn do_as_told(rt: &(impl Print + Eprint), input: &[u8], room: &mut [u8])
     requires { length room.old ≡ 2048 }
 {
     let Addressed::To(count, start) = zone_at(input, 0) else {
-        io::write_all(2, b"loadtime: the first line has no number\n");
+        let _ = rt.eprintln("loadtime: the first line has no number");
         return;
     };
     if input.len() - start < 2 {
-        io::write_all(2, b"loadtime: the first line is cut off\n");
+        let _ = rt.eprintln("loadtime: the first line is cut off");
         return;
     }
     let mixed = rounds(input[start], count, &input[start + 2..], room);
     room[2047] = (mixed % 256) as u8;
-    io::write_all(1, room);
+    let _ = rt.write_all(room);
+}
+
+// How many bytes one read gives; none where it fails.
+fn take(from: &mut impl Read, input: &mut [u8]) -> usize
+    ensures { result ≤ length input.new }
+{
+    match from.read(input) {
+        Ok(count) => count,
+        Err(_) => 0,
+    }
 }
 
 // One read is enough: the input is a file, and short.
-fn run(input: &mut [u8], room: &mut [u8])
+fn run(rt: &(impl Print + Eprint), from: &mut impl Read, input: &mut [u8], room: &mut [u8])
     requires { length room.old ≡ 2048 }
 {
-    let got = libc::read(0, input);
-    let count = io::count(got, input);
-    do_as_told(&input[0..count], room);
+    let count = take(from, input);
+    do_as_told(rt, &input[0..count], room);
 }
 
 // The room is full of blanks, so that it can be read with the replies in it.
-fn main() {
+fn main(rt: HostRuntime) {
     let mut input = [0u8; 4096];
     let mut room = [32u8; 2048];
-    run(&mut input, &mut room);
+    run(&rt, &mut rt.stdin(), &mut input, &mut room);
 }
