@@ -14,7 +14,6 @@ use Rattle.zone.proofs.Tests.{neither}
 use Rattle.zone.proofs.Sound.{empty_sound, kilograms_sound}
 use Rattle.zone.proofs.Written.{sets_kilograms}
 use Rattle.card.specs.declared.records.Record.{Record}
-use Rattle.card.specs.Refusals.{first}
 use Rattle.card.specs.Records.{zone_at, with_zone, sound, no_zone}
 use Rattle.card.specs.Calls.{together, merge_rows, merged, merge_of}
 use Rattle.card.specs.Rules.{KeepsButTwo, Frees, Folds}

@@ -9,7 +9,7 @@ use borrow.Author.Tests.{lt-ltb, le-ltb, eq-eqb, ne_eqb}
 use Rattle.zone.specs.Lists.{some}
 use Rattle.card.specs.declared.records.Record.{Record}
 use Rattle.card.specs.Records.{sound}
-use Rattle.texts.specs.Texts.{to, lines_of}
+use Rattle.texts.specs.Texts.{lines_of}
 use Rattle.recipes.specs.Recipes.{lacks, sendings, Sent, in_turn, refused_line, Loading, refused_with, tried_with, load_of}
 use Rattle.recipes.specs.Inner.{sending_at, Trying, try_from, reply_of, replies_in, lengths_of}
 use Rattle.recipes.proofs.Surveys.{said_all}

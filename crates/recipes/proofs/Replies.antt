@@ -5,7 +5,7 @@ use mathlib.Core.List.{List, [], ◌∷◌, ◌++◌, map, append_assoc}
 use native.Mathlib.Omega.{arith}
 use native.Mathlib.Numerals.{add-one}
 use lib.ListN.{length, take, drop, set, get_or, replicate, length-append, length-map, take-append-drop, drop_of_length-le, get_or-map}
-use lib.Seq.{take_all, take-length, drop-drop, drop-cons, set_at, append_snoc, get_or-take, length-take-le, take-append-add, drop-append-add}
+use lib.Seq.{take_all, drop-drop, drop-cons, set_at, append_snoc, get_or-take, length-take-le, take-append-add, drop-append-add}
 use borrow.Rule.Slice.PartMut.{put_mid}
 use Rattle.zone.specs.declared.figures.Figures.{Figures}
 use Rattle.wire.specs.Room.{filled, placed, Filled}

@@ -21,7 +21,6 @@ use Rattle.card.specs.Inner.{answer_by, after_by, verdict_seen, judged, ask_at}
 use Rattle.line.specs.declared.reading.Reading.{Reading}
 use Rattle.roads.specs.Inner.{one_of_sixteen, asked_of, place_found}
 use Rattle.roads.proofs.Judged.{by_number, line_judged}
-use Rattle.texts.specs.Texts.{to}
 use Rattle.recipes.specs.declared.lines.Cut.{Cut}
 use Rattle.recipes.specs.declared.replying.Told.{Told}
 use Rattle.recipes.specs.Recipes.{Sending}

@@ -8,7 +8,7 @@ use native.Mathlib.Nat.{zero-add}
 use native.Mathlib.Numerals.{add-one}
 use lib.Dec.{eqb}
 use lib.ListN.{length, take, drop, get_or, length-drop, drop_of_length-le}
-use lib.Seq.{drop-cons, drop-drop, take-length}
+use lib.Seq.{drop-cons, drop-drop}
 use Rattle.texts.specs.Texts.{index_of}
 use Rattle.zone.proofs.Tests.{neither}
 use Rattle.texts.specs.Texts.{line_feed}

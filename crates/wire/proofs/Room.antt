@@ -5,7 +5,7 @@ use mathlib.Core.List.{List, ◌++◌, append_assoc, append-nil}
 use native.Mathlib.Omega.{arith}
 use native.Mathlib.Nat.{zero-add}
 use lib.ListN.{length, take, drop, length-append, length-drop, drop_of_length-le}
-use lib.Seq.{take-append_seam, drop-append-add, drop-drop, take_all, take-length}
+use lib.Seq.{take-append_seam, drop-append-add, drop-drop, take_all}
 use Rattle.wire.specs.Room.{filled, placed}
 
 pub placed_first : (room xs : List ℕ) → placed room 0 xs ≡ filled xs room

@@ -1,12 +1,10 @@
 -- The tests are those of the definition, in its order; then what came of trying the lines decides.
-use Prim.Native.Nat.{◌/◌, ◌≤◌}
+use Prim.Native.Nat.{◌≤◌}
 use mathlib.Core.Path.{◌≡◌, sym, ap, ◌∙◌}
 use mathlib.Core.Bool.{true, false}
-use native.Mathlib.Omega.{arith}
 use lib.ListN.{length}
 use borrow.Author.Tests.{not-true, not-false}
 use Rattle.zone.specs.Lists.{some}
-use Rattle.card.specs.Answers.{number_of}
 use Rattle.card.specs.Records.{sound}
 use Rattle.texts.specs.Texts.{lines_of}
 use Rattle.recipes.specs.Recipes.{lacks, sendings, refused_with}

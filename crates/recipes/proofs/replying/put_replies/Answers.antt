@@ -1,8 +1,7 @@
 -- One reply more stands in its part of the room.
-use mathlib.Core.Path.{◌≡◌, ◌∙◌}
-use mathlib.Core.List.{map}
+use mathlib.Core.Path.{◌≡◌}
 use native.Mathlib.Omega.{arith}
-use lib.ListN.{length, take}
+use lib.ListN.{length}
 use borrow.Author.Rules.{rules}
 use Rattle.card.proofs.Scans.{length_mapped}
 use Rattle.recipes.proofs.Replies.{ahead_turn}

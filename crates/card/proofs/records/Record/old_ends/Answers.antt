@@ -3,7 +3,6 @@ use mathlib.Core.Path.{◌≡◌, sym, ◌∙◌}
 use native.Mathlib.Omega.{arith}
 use lib.ListN.{length}
 use borrow.Author.Rules.{rules}
-use borrow.Author.Tests.{not-true, not-false}
 use Rattle.card.proofs.Scans.{length_mapped}
 use Rattle.card.proofs.Mending.{gathers_start, gathers_open, gathers_shut, gathers_end}
 use Rattle.card.proofs.records.Record.old_ends.Goals as goal
@@ -26,9 +25,10 @@ loop-i-preserved c =
     let zs = c.args.self.zones in
     let h : length zs ≡ 16 = search (rules, length_mapped) in
     let t = c.loop-i in
-    elim c.if-not-window_opens.branch
-    [ then-not-window_opens w ↦ rw (w.count-is, w.ends-is, w.window_end.ensures) (gathers_shut zs t.ends t.count t.i _ (omega arith) (omega arith) t.invariant (sym c.window_opens.ensures ∙ w.if-not-window_opens.true))
-    | else-not-window_opens w ↦ rw (w.count-is, w.ends-is) (gathers_open zs t.ends t.count t.i _ (omega arith) (omega arith) t.invariant (sym c.window_opens.ensures ∙ w.if-not-window_opens.false)) ]
+    elim c.if-not-window_opens.branch [
+      | then-not-window_opens w ↦ rw (w.count-is, w.ends-is, w.window_end.ensures) (gathers_shut zs t.ends t.count t.i _ (omega arith) (omega arith) t.invariant (sym c.window_opens.ensures ∙ w.if-not-window_opens.true))
+      | else-not-window_opens w ↦ rw (w.count-is, w.ends-is) (gathers_open zs t.ends t.count t.i _ (omega arith) (omega arith) t.invariant (sym c.window_opens.ensures ∙ w.if-not-window_opens.false))
+    ]
 
 pub returns : goal.returns
 returns c =

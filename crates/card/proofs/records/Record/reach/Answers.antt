@@ -1,5 +1,4 @@
 -- Each return is the definition's first test that holds; the last has passed both.
-use mathlib.Core.Path.{sym, ◌∙◌}
 use Rattle.card.specs.Inner.{reach_of}
 use Rattle.card.proofs.records.Record.reach.Goals as goal
 
