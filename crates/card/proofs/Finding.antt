@@ -1,8 +1,8 @@
 -- What is found is the first zone that holds the address; where nothing is found, no zone holds it. Assumes nothing.
-use Prim.Native.Nat.{ℕ, zero, suc, ◌+◌, ◌≤◌, ◌<◌}
+use Prim.Native.Nat.{ℕ, zero, suc, ◌≤◌, ◌<◌}
 use mathlib.Core.Path.{◌≡◌, refl, sym, ap, ◌∙◌}
 use mathlib.Core.Logic.{◌↔◌}
-use mathlib.Core.Bool.{Bool, true, false, cond}
+use mathlib.Core.Bool.{Bool, true, false}
 use mathlib.Core.List.{List, [], ◌∷◌}
 use native.Mathlib.Omega.{arith}
 use lib.ListN.{get_or, get_or-eq_default}
@@ -14,41 +14,10 @@ use Rattle.zone.proofs.Tests.{never, both, or_true}
 use Rattle.card.specs.declared.records.Record.{Record}
 use Rattle.card.specs.declared.records.Found.{Found}
 use Rattle.card.specs.declared.records.Found.TheVariants.{At, Nowhere}
-use Rattle.card.specs.Records.{zone_at, held_in, differ, sound, no_zone, find_from, find_of}
+use Rattle.card.specs.Records.{zone_at, held_in, differ, sound, no_zone, find_of}
 use Rattle.card.specs.Rules.{FirstToHold}
 use Rattle.card.proofs.Storing.{differ_parts, sound_parts}
-
--- what is found from zone k on is zone k + i, where i is the first of the list to hold the address
-record FoundFrom (k : ℕ) (zs : List Zone) (a n : ℕ) : Type 0 where
-  i : ℕ
-  place : n ≡ k + i
-  here : holds a (get_or zs i empty_zone) ≡ true
-  earlier : (m : ℕ) → m < i → holds a (get_or zs m empty_zone) ≡ false
-
-one_more_lem : (z : Zone) (zs : List Zone) (a i : ℕ) → holds a z ≡ false → ((m : ℕ) → m < i → holds a (get_or zs m empty_zone) ≡ false) → (m : ℕ) → m < suc i → holds a (get_or (z ∷ zs) m empty_zone) ≡ false
-one_more_lem z zs a i e h zero l = e
-one_more_lem z zs a i e h (suc m) l = h m (omega arith)
-
-found_from : (k : ℕ) (zs : List Zone) (a n : ℕ) → find_from k zs a ≡ At n → FoundFrom k zs a n
-unfolding find_from
-found_from k [] a n e = absurd (let z : ◌≡◌ {A = ℕ} 0 1 = cc in omega arith)
-found_from k (z ∷ zs) a n e = by_first (holds a z) refl e (found_from (suc k) zs a n)
-  where
-    by_first : (t : Bool) → holds a z ≡ t → cond t (At k) (find_from (suc k) zs a) ≡ At n → (find_from (suc k) zs a ≡ At n → FoundFrom (suc k) zs a n) → FoundFrom k (z ∷ zs) a n
-    by_first true h e rest = let p : k ≡ n = cc in record { i = 0; place = omega arith; here = h; earlier = λ m l. absurd (omega arith) }
-    by_first false h e rest =
-        let f = rest e in
-        record { i = suc f.i; place = let p = f.place in omega arith; here = f.here; earlier = one_more_lem z zs a f.i h f.earlier }
-
-nowhere_from : (k : ℕ) (zs : List Zone) (a : ℕ) → find_from k zs a ≡ Nowhere → (m : ℕ) → holds a (get_or zs m empty_zone) ≡ false
-unfolding find_from
-nowhere_from k [] a e m = refl
-nowhere_from k (z ∷ zs) a e m = by_first (holds a z) refl e (nowhere_from (suc k) zs a) m
-  where
-    by_first : (t : Bool) → holds a z ≡ t → cond t (At k) (find_from (suc k) zs a) ≡ Nowhere → (find_from (suc k) zs a ≡ Nowhere → (m : ℕ) → holds a (get_or zs m empty_zone) ≡ false) → (m : ℕ) → holds a (get_or (z ∷ zs) m empty_zone) ≡ false
-    by_first true h e rest m = absurd (let z : ◌≡◌ {A = ℕ} 0 1 = cc in omega arith)
-    by_first false h e rest zero = h
-    by_first false h e rest (suc m) = rest e m
+use Rattle.card.proofs.Searches.{found_from, nowhere_from}
 
 is_first : (r : Record) (a n : ℕ) → find_of r a ≡ At n → FirstToHold r a n
 is_first r a n e =

@@ -7,6 +7,7 @@ pub mod Mapped
 pub mod Kept
 pub mod Sets
 pub mod Merging
+pub mod Searches
 pub mod Finding
 pub mod Repairs
 pub mod Unique
