@@ -11,7 +11,6 @@ set -u
 unset CDPATH
 
 here=$(cd "$(dirname "$0")" && pwd -P) || exit 1
-. "$here/../kit.sh"
 . "$here/tools.sh"
 
 [ $# -ge 2 ] || bench_fail "usage: differential.sh PROGRAM FOLDER [LINES [SEED...]]"
@@ -38,8 +37,8 @@ log=$folder/log.in proved=$folder/log.proved c=$folder/log.c
 
 # Runs both programs on the log.
 run_both() { # WHAT THE LOG IS
-    kit_run "$program" <"$log" >"$proved" || bench_fail "$1: the proved program ended with status $?"
-    kit_run "$folder/card-test" <"$log" >"$c" || bench_fail "$1: the C program ended with status $?"
+    "$program" <"$log" >"$proved" || bench_fail "$1: the proved program ended with status $?"
+    "$folder/card-test" <"$log" >"$c" || bench_fail "$1: the C program ended with status $?"
 }
 
 # Shows the first line in which the outputs differ. Where one is the beginning of the other, it is the line after.
@@ -88,11 +87,11 @@ fixed 'the whole case' \
 compared=0
 : >"$folder/answers"
 for seed in "$@"; do
-    kit_run "$folder/logs" "$seed" "$lines" >"$log" || bench_fail "the log of seed $seed cannot be made"
+    "$folder/logs" "$seed" "$lines" >"$log" || bench_fail "the log of seed $seed cannot be made"
     compare "seed $seed"
     [ "$given" -eq "$lines" ] || bench_fail "seed $seed: the log has $given lines in place of $lines"
     compared=$((compared + given))
-    dd bs=$((600 + seed % 8)) <"$log" 2>/dev/null | kit_run "$program" | cmp -s - "$c" ||
+    dd bs=$((600 + seed % 8)) <"$log" 2>/dev/null | "$program" | cmp -s - "$c" ||
         bench_fail "seed $seed: the proved program gives another output where the log comes through a pipe, in pieces"
     cut -f 1,2 "$proved" | sort | uniq -c >>"$folder/answers"
 done

@@ -6,8 +6,8 @@
 #
 # PROGRAM is the proved log program and LOADER the proved program that is timed for recipes; FOLDER takes what is built
 # and written; the logs stay there for the next time. There is one of ordinary traffic, a longer one like it, and one of
-# the longest frames. The recipe has 64 lines, and is loaded, or its lines are sent singly, many times over. A proved
-# program has no status but 0: that its recipe was loaded is seen where its output is compared. The programs take turns.
+# the longest frames. The recipe has 64 lines, and is loaded, or its lines are sent singly, many times over. The proved
+# program's status does not tell that it was loaded: that is seen where its output is compared. The programs take turns.
 # A run reads from a file and writes to /dev/null, and its time is its processor time. Ratios are of the least times:
 # other work on the machine adds to a time and never takes from it. Those of the medians stand beside them; where the
 # two are far apart the machine was busy. The outputs are compared first.
@@ -15,7 +15,6 @@ set -u
 unset CDPATH
 
 here=$(cd "$(dirname "$0")" && pwd -P) || exit 1
-. "$here/../kit.sh"
 . "$here/tools.sh"
 
 [ $# -ge 3 ] || bench_fail "usage: speed.sh PROGRAM LOADER FOLDER [ROUNDS]"
@@ -42,7 +41,7 @@ bench_log() { # LINES KIND [LENGTH]
     made=$folder/$name.$(cksum <"$here/logs.c" | cut -d ' ' -f 1)
     if [ ! -f "$made" ]; then
         rm -f "$folder/$name".*
-        kit_run "$folder/logs" 2 "$@" >"$folder/making" && mv "$folder/making" "$made" ||
+        "$folder/logs" 2 "$@" >"$folder/making" && mv "$folder/making" "$made" ||
             bench_fail "the log of $1 lines cannot be made"
     fi
 }
@@ -63,7 +62,6 @@ tell() { # WORDS
 }
 
 kind="$(uname -m), $(nproc 2>/dev/null || echo '?') cores"
-if [ -n "$kit_emulator" ]; then kind="$kind; all programs run under the kit's emulator, whose time and memory are counted"; fi
 tell "on $kind"
 tell 'three logs are made, if they are not there yet: two of ordinary traffic and one of the longest frames'
 bench_log 1000000 bench
@@ -78,24 +76,24 @@ bench_recipe 4999 S
 # The outputs first.
 tell 'the outputs of the programs are compared'
 for log in "$small" "$large" "$longest"; do
-    kit_run "$folder/card-test" <"$log" >"$folder/speed.c" || bench_fail "the C program with the test failed"
-    kit_run "$folder/card-plain" <"$log" >"$folder/speed.plain" || bench_fail "the C program without the test failed"
-    kit_run "$program" <"$log" >"$folder/speed.proved" || bench_fail "the proved program failed"
+    "$folder/card-test" <"$log" >"$folder/speed.c" || bench_fail "the C program with the test failed"
+    "$folder/card-plain" <"$log" >"$folder/speed.plain" || bench_fail "the C program without the test failed"
+    "$program" <"$log" >"$folder/speed.proved" || bench_fail "the proved program failed"
     cmp "$folder/speed.c" "$folder/speed.plain" && cmp "$folder/speed.c" "$folder/speed.proved" ||
         bench_fail "the outputs differ"
 done
-kit_run "$loader" <"$folder/recipe-W" >"$folder/speed.proved" || bench_fail "the proved program for recipes failed"
-kit_run "$loader" <"$folder/recipe-S" >"$folder/speed.singly" || bench_fail "the proved program for recipes failed"
-kit_run "$folder/recipe-test" <"$folder/recipe-W" >"$folder/speed.c" || bench_fail "recipes in C with the test failed"
-kit_run "$folder/recipe-plain" <"$folder/recipe-W" >"$folder/speed.plain" || bench_fail "recipes in C failed"
-kit_run "$folder/recipe-cut" <"$folder/recipe-W" >"$folder/speed.cut" || bench_fail "recipes in C, cut once, failed"
+"$loader" <"$folder/recipe-W" >"$folder/speed.proved" || bench_fail "the proved program for recipes failed"
+"$loader" <"$folder/recipe-S" >"$folder/speed.singly" || bench_fail "the proved program for recipes failed"
+"$folder/recipe-test" <"$folder/recipe-W" >"$folder/speed.c" || bench_fail "recipes in C with the test failed"
+"$folder/recipe-plain" <"$folder/recipe-W" >"$folder/speed.plain" || bench_fail "recipes in C failed"
+"$folder/recipe-cut" <"$folder/recipe-W" >"$folder/speed.cut" || bench_fail "recipes in C, cut once, failed"
 for output in singly c plain cut; do
     cmp "$folder/speed.proved" "$folder/speed.$output" || bench_fail "the replies to the recipe differ"
 done
 rm -f "$folder"/speed.*
 
 measure() { # NAME PROGRAM LOG
-    bench_timed "$folder/timed" "$3" /dev/null "$2" >>"$folder/times-$1" || bench_fail "$2 failed under the clock"
+    "$folder/timed" "$3" /dev/null "$2" >>"$folder/times-$1" || bench_fail "$2 failed under the clock"
 }
 
 rm -f "$folder"/times-*

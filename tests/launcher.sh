@@ -10,7 +10,6 @@ unset CDPATH
 
 here=$(cd "$(dirname "$0")" && pwd -P) || exit 1
 root=$(dirname "$here")
-. "$root/kit.sh"
 . "$root/bench/tools.sh"
 bench_find
 
@@ -67,19 +66,20 @@ await() { # COMMAND...
     done
 }
 
-# A root for one test: the launcher, the program, a rt that does what the test says, and stand-ins for the tests and the
+# A root for one test: the launcher, the programs, a rt that does what the test says, and stand-ins for the tests and the
 # comparison that ./card test runs. Its name has a blank.
 make_root() {
     own="$PWD/a root" card="$PWD/a root/card" stand_ins=$PWD
+    built=$own/crates/cardlog/out/cardlog
     export stand_ins
-    mkdir -p bin "$own/crates/zone/src" "$own/crates/cardlog/src" "$own/target/bin" "$own/target/stamp" "$own/bench" \
-        "$own/tests"
-    cp "$root/card" "$root/kit.sh" "$root/toolchain.txt" "$own/"
+    mkdir -p bin "$own/crates/zone/src" "$own/crates/cardlog/out" "$own/crates/cardsay/out" "$own/crates/cardload/out" \
+        "$own/target" "$own/bench" "$own/tests"
+    cp "$root/card" "$root/toolchain.txt" "$own/"
     cp -R "$root/examples" "$own/"
-    cp "$program" "$own/target/bin/cardlog"
-    cp "$speaker" "$own/target/bin/cardsay"
-    cp "$loader" "$own/target/bin/cardload"
-    printf '# A comment.\nzone:\ncardlog: zone io\n' >"$own/crates.txt"
+    cp "$program" "$built"
+    cp "$speaker" "$own/crates/cardsay/out/cardsay"
+    cp "$loader" "$own/crates/cardload/out/cardload"
+    printf '# A comment.\nzone:\ncardlog: zone\ncardsay: zone\ncardload: zone\n' >"$own/crates.txt"
     for script in bench/speed.sh bench/differential.sh tests/launcher.sh; do
         printf 'echo "%s ran"\n' "$script" >"$own/$script"
     done
@@ -87,9 +87,10 @@ make_root() {
 #!/bin/sh
 case $1 in
 doc | version) exec "$real_rt" "$@" ;;
-fmt) exit 0 ;;
+run) call="run in ${PWD##*/}" ;;
+*) call=$* ;;
 esac
-printf '%s\n' "$*" >>"$stand_ins/calls"
+printf '%s\n' "$call" >>"$stand_ins/calls"
 cat >/dev/null
 . "$stand_ins/does"
 END
@@ -104,8 +105,12 @@ rt_does() { # WORDS
     printf '%s\n' "$1" >does
 }
 
-unchanged='for crate in zone cardlog; do echo "rt: $crate proved (unchanged since it was last proved)"; done
-echo "rt: ok, 2 crates proved"'
+# What rt run says before it runs the program, what it says where nothing has changed, and what rt ci says at its end.
+running='echo "rt: running out/${PWD##*/}; to give it other input, run that file yourself"'
+unchanged='echo "rt: nothing has changed since the last proved build, by out/${PWD##*/}.stamp, so nothing is checked now"
+'$running
+well='rt: ok; handles allowed: none; must-fail edits: 7 refused; every proof and must-fail edit was done in this run'
+passes="echo '$well'; echo '5 passed, 0 failed'"
 
 # A sleep in place of the one on the PATH.
 sleep_does() { # WORDS
@@ -198,7 +203,7 @@ test_an_input_that_fails_in_the_middle_is_told() {
     exec 5<>log
     printf 'X\t0\nX\t1\nX\t2' >&5
     {
-        kit_run "$PWD/unblock"
+        "$PWD/unblock"
         run "$card" log
     } <log
     expect_all 1 "X${tab}3${tab}-
@@ -273,10 +278,10 @@ test_a_closed_pipe_is_told_where_its_signal_is_ignored() {
 
 test_a_program_that_ends_otherwise_gives_its_status() {
     make_root
-    bench_build "$here/one_call.c" "$own/target/bin/cardlog" '-DCALL=_exit(7)'
+    bench_build "$here/one_call.c" "$built" '-DCALL=_exit(7)'
     run "$card" log "$day"
     expect_all 7 '' 'card: the log program ended with status 7'
-    bench_build "$here/one_call.c" "$own/target/bin/cardlog" '-DCALL=raise(KILL)'
+    bench_build "$here/one_call.c" "$built" '-DCALL=raise(KILL)'
     run "$card" log "$day"
     expect status 137 "$status"
     expect 'the last line on standard error' 'card: the log program ended with status 137' "$(tail -n 1 err)"
@@ -319,8 +324,8 @@ test_lines_are_sent_to_a_zone_of_the_named_range() {
   SSOLW 301
         ^ 0 to 300
 0${tab}ASOLW 000${tab}0" ''
-    expect 'calls of rt' 'check cardsay
-check cardsay' "$(cat calls)"
+    expect 'calls of rt' 'run in cardsay
+run in cardsay' "$(cat calls)"
     run "$card" say 300 </dev/null
     expect_all 0 '' ''
 }
@@ -345,7 +350,7 @@ test_what_fails_while_lines_are_sent_is_told() {
     "$card" say 300 <lines >/dev/full 2>words
     expect status 1 "$?"
     expect 'standard error' 'cardsay: the output cannot be written' "$(cat words)"
-    bench_build "$here/one_call.c" "$own/target/bin/cardsay" '-DCALL=_exit(7)'
+    bench_build "$here/one_call.c" "$own/crates/cardsay/out/cardsay" '-DCALL=_exit(7)'
     run "$card" say 300 <lines
     expect_all 7 '' 'card: the program of an operator ended with status 7'
 }
@@ -372,8 +377,8 @@ test_a_recipe_is_loaded_by_the_proved_program() {
     expect_night
     run "$card" load - "$night.recipe" <"$setup"
     expect_night
-    expect 'calls of rt' 'check cardload
-check cardload' "$(cat calls)"
+    expect 'calls of rt' 'run in cardload
+run in cardload' "$(cat calls)"
 }
 
 test_a_refused_recipe_has_status_1_and_says_why() {
@@ -550,12 +555,12 @@ test_what_fails_while_a_recipe_is_loaded_is_told() {
     rt_does "rm \"\$stand_ins/recipe\"; $unchanged"
     run "$card" load "$setup" recipe
     expect_all 1 '' 'cardload: the recipe cannot be read'
-    rt_does 'echo "rt: FAILED: cardload"; exit 1'
+    rt_does 'echo "rt: the library zone did not build, so nothing above it was checked"; exit 1'
     run "$card" load "$setup" "$night.recipe"
     expect status 1 "$status"
     expect 'standard output' '' "$(cat out)"
     rt_does "$unchanged"
-    bench_build "$here/one_call.c" "$own/target/bin/cardload" '-DCALL=_exit(7)'
+    bench_build "$here/one_call.c" "$own/crates/cardload/out/cardload" '-DCALL=_exit(7)'
     run "$card" load "$setup" "$night.recipe"
     expect_all 7 '' 'card: the program for recipes ended with status 7'
 }
@@ -640,63 +645,65 @@ test_a_missing_toolchain_is_told() {
 test_each_run_is_checked_first_whatever_the_dates_say() {
     make_root
     # A program that is newer than all sources, one of which has changed and is dated long ago.
-    bench_build "$here/one_call.c" "$own/target/bin/cardlog" '-DCALL=_exit(7)'
+    bench_build "$here/one_call.c" "$built" '-DCALL=_exit(7)'
     echo changed >"$own/crates/zone/src/lib.rt"
     touch -t 200001010000 "$own/crates/zone/src/lib.rt"
     cp "$program" built
-    rt_does 'cp "$stand_ins/built" target/bin/cardlog; echo "rt: ok, 2 crates proved"'
+    rt_does "cp \"\$stand_ins/built\" out/\${PWD##*/}; $running"
     run "$card" log - <"$day"
     expect_day
-    cp "$program" "$own/target/bin/loadtime"
+    mkdir -p "$own/crates/loadtime/out"
     printf 'echo "bench/speed.sh $*"\n' >"$own/bench/speed.sh"
     run "$card" bench
-    expect_all 0 "bench/speed.sh $own/target/bin/cardlog $own/target/bin/loadtime $own/target/bench" ''
-    expect 'calls of rt' 'check cardlog
-check cardlog
-check loadtime' "$(cat calls)"
+    expect_all 0 "bench/speed.sh $built $own/crates/loadtime/out/loadtime $own/target/bench" ''
+    expect 'calls of rt' 'run in cardlog
+run in cardlog
+run in loadtime' "$(cat calls)"
 }
 
 test_a_program_that_is_gone_is_built_again() {
     make_root
-    mv "$own/target/bin/cardlog" built
-    echo known >"$own/target/stamp/cardlog"
-    rt_does '[ -f target/stamp/cardlog ] || cp "$stand_ins/built" target/bin/cardlog; echo "rt: ok, 2 crates proved"'
+    mv "$built" built
+    rt_does "[ -f out/cardlog ] || cp \"\$stand_ins/built\" out/cardlog; $running"
     run "$card" log "$day"
     expect_day
-    rt_does 'echo "rt: ok, 2 crates proved"'
-    rm "$own/target/bin/cardlog"
+    rt_does "$unchanged"
+    rm "$built"
     run "$card" log "$day"
-    expect_all 1 '' "card: the check passed, and there is no program $own/target/bin/cardlog"
+    expect_all 1 '' "card: the check passed, and there is no program $built"
 }
 
 test_a_check_that_fails_is_told_in_few_lines_and_nothing_runs() {
     make_root
-    rt_does 'echo "rt: zone proved (unchanged since it was last proved)"
+    rt_does 'echo "rt: chose --jobs 2 for zone"
+echo "fn zone::zones::Zone::new: proved"
 long=$(awk '\''BEGIN { for (i = 0; i < 3000; i++) printf "x" }'\'')
-for line in 1 2 3 4 5 6 7 8 9; do echo "specs/Zones.antt:$line:1: error: $long"; echo "$long"; done
-echo "rt: cardlog NOT PROVED (exit 1, 0 s)"
-echo "rt: FAILED: cardlog"
+for line in 1 2 3 4 5 6 7 8 9; do echo "note: src/zones.rt:$line:1: it is not proved that $long"; echo "$long"; done
+echo "logic=not-proved"
+echo "rattle build: nothing was built, since only a proved crate is built"
+echo "rt: the library zone did not build, so nothing above it was checked"
 exit 1'
     for word in log bench; do
         run "$card" "$word" </dev/null
         expect status 1 "$status"
         expect 'standard output' '' "$(cat out)"
-        expect 'standard error, cut' 'specs/Zones.antt:1:1: error: xxxxxxxxxxx
-rt: cardlog NOT PROVED (exit 1, 0 s)
+        expect 'standard error, cut' 'card: the program is proved before it is
+note: src/zones.rt:1:1: it is not proved
+rt: the library zone did not build, so n
 card: the check failed, so the program i' "$(cut -c 1-40 err)"
-        expect 'the length of the error' yes "$(awk 'NR == 1 { print length($0) < 350 ? "yes" : length($0) }' err)"
-        expect 'where all of it stands' "$own/target/card.log" "$(sed -n '3s/.* stands in //p' err)"
-        expect 'lines there' 21 "$(($(wc -l <"$own/target/card.log")))"
+        expect 'the length of the error' yes "$(awk 'NR == 2 { print length($0) < 350 ? "yes" : length($0) }' err)"
+        expect 'where all of it stands' "$own/target/card.log" "$(sed -n '4s/.* stands in //p' err)"
+        expect 'lines there' 23 "$(($(wc -l <"$own/target/card.log")))"
     done
 }
 
 test_a_check_that_cannot_begin_says_why() {
     make_root
-    rt_does 'echo "rt: crates.txt: line 3: cardlog is listed twice" >&2; exit 2'
+    rt_does 'echo "rt: crates.txt: cardlog is on two lines" >&2; exit 2'
     echo another >"$own/toolchain.txt"
     run "$card" log "$day"
     expect_all 1 '' "card: warning: the toolchain is \"$(rt version)\"; the card was proved with \"another\"
-rt: crates.txt: line 3: cardlog is listed twice
+rt: crates.txt: cardlog is on two lines
 card: the check failed, so the program is not run; all that the check said stands in $own/target/card.log"
 }
 
@@ -715,17 +722,18 @@ test_progress_is_told_as_it_comes() {
     make_root
     printf 'zone:\ncard: zone\nwire:\ncardlog: card wire\n' >"$own/crates.txt"
     echo another >"$own/toolchain.txt"
-    rt_does 'echo "rt: zone proved (unchanged since it was last proved)"
-echo "rt: card proved (22 s)"
+    rt_does 'proves() { echo "rt: chose --jobs 2 for $1"; echo "fn $1::f: proved"; echo "logic=proved functions=$2 sum=0"; }
+proves card 22
 for turn in 1 2 3 4 5 6 7 8 9; do grep -q "card proved" "$stand_ins/err" || sleep 1; done
-grep -q "card proved" "$stand_ins/err" && echo "rt: wire proved (2 s)"
-echo "rt: cardlog proved (20 s)"'
+grep -q "card proved" "$stand_ins/err" && proves wire 2
+proves cardlog 20
+'"$running"
     run "$card" log "$day"
     expect_all 0 "$(cat "$answers")" "card: the program is proved before it is run; the 4 crates take some minutes, once
 card: warning: the toolchain is \"$(rt version)\"; the card was proved with \"another\"
-card: 2 of 4: card proved (22 s)
-card: 3 of 4: wire proved (2 s)
-card: 4 of 4: cardlog proved (20 s)"
+card: 2 of 4: card proved (22 functions)
+card: 3 of 4: wire proved (2 functions)
+card: 4 of 4: cardlog proved (20 functions)"
 }
 
 test_a_long_check_says_that_it_is_still_at_work() {
@@ -733,7 +741,8 @@ test_a_long_check_says_that_it_is_still_at_work() {
     # Fifty seconds pass at once.
     : >slept
     sleep_does 'echo >>"$stand_ins/slept"; [ $(wc -l <"$stand_ins/slept") -lt 50 ] || exec "$real_sleep" 1'
-    rt_does 'for turn in 1 2 3 4 5 6 7 8 9; do [ $(wc -l <"$stand_ins/slept") -ge 50 ] || "$real_sleep" 1; done'
+    rt_does 'for turn in 1 2 3 4 5 6 7 8 9; do [ $(wc -l <"$stand_ins/slept") -ge 50 ] || "$real_sleep" 1; done
+'"$running"
     run "$card" log "$day"
     expect_all 0 "$(cat "$answers")" 'card: the program is proved before it is run; the 2 crates take some minutes, once
 card: still at work (22 s)
@@ -744,7 +753,8 @@ test_two_checks_are_never_at_work_at_once() {
     make_root
     rt_does 'mkdir "$stand_ins/busy" || : >"$stand_ins/twice"
 sleep 0.3 2>/dev/null || sleep 1
-rmdir "$stand_ins/busy"'
+rmdir "$stand_ins/busy"
+'"$running"
     "$card" log "$day" >first 2>&1 &
     "$card" log "$day" >second 2>&1 &
     run "$card" log "$day"
@@ -766,7 +776,49 @@ test_a_lock_that_was_left_behind_holds_nobody_up() {
     wait "$!"
     status=$?
     expect_day
-    expect 'what is left in target' 'bin card.log stamp ' "$(ls "$own/target" | tr '\n' ' ')"
+    expect 'what is left in target' 'card.log ' "$(ls "$own/target" | tr '\n' ' ')"
+}
+
+# A root with one small crate, and no stand-in for rt: the words of the real one are those that the launcher listens for.
+test_the_toolchain_proves_and_builds_what_is_run() {
+    make_root
+    PATH=${PATH#*:}
+    rm -r "$own/crates"
+    mkdir -p "$own/crates/five/src"
+    sed 's/^choose cardlog /choose five /' "$root/card" >"$card"
+    echo five: >"$own/crates.txt"
+    cat >"$own/crates/five/src/main.rt" <<'END'
+#![tactic(auto)]
+
+ghost use Rattle.std.specs.Prelude.{◌≡◌};
+
+use std::io;
+
+fn five() -> u32
+    ensures { result ≡ 5 }
+{
+    5
+}
+
+fn main(rt: HostRuntime) -> io::Result<()> {
+    let number = five();
+    println!(rt; "{number}")
+}
+END
+    run "$card" log </dev/null
+    expect 'standard error' 'card: the program is proved before it is run; the 1 crates take some minutes, once
+card: 1 of 1: five proved (2 functions)' "$(grep -v '^card: still at work ' err)"
+    expect 'standard output' 5 "$(cat out)"
+    run "$card" log </dev/null
+    expect 'what is proved where nothing has changed' '' "$(grep ' proved (' err)"
+    expect 'standard output where nothing has changed' 5 "$(cat out)"
+    sed 's/^    5$/    6/' "$own/crates/five/src/main.rt" >main.rt
+    cp main.rt "$own/crates/five/src/"
+    run "$card" log </dev/null
+    expect 'status of what is not proved' 1 "$status"
+    expect 'standard output of what is not proved' '' "$(cat out)"
+    grep -q '^note: src/main.rt:.* it is not proved that ' err || wrong "the place is not told: '$(cat err)'"
+    grep -q '^card: the check failed, so the program is not run' err || wrong "no failure is told: '$(cat err)'"
 }
 
 # ---- the end by a signal
@@ -775,7 +827,7 @@ test_a_lock_that_was_left_behind_holds_nobody_up() {
 expect_the_end() { # EXPECTED STATUS, STATUS
     expect status "$1" "$2"
     expect 'what is left in the folder for temporary files' '' "$(ls temporary)"
-    expect 'what is left in target' 'bin card.log stamp ' "$(ls "$own/target" | tr '\n' ' ')"
+    expect 'what is left in target' 'card.log ' "$(ls "$own/target" | tr '\n' ' ')"
     await nobody_reads || wrong 'a process is left behind'
 }
 
@@ -849,7 +901,7 @@ test_a_check_that_is_ended_leaves_nothing_behind() {
 
 # ./card test does not pass where rt does and ends so, and runs nothing behind it.
 expect_refusal() { # WORDS FOR rt, LAST LINE
-    rt_does "$1"
+    rt_does "echo '$well'; $1"
     run "$card" test
     expect "the last line, where rt does: $1" "$2" "$(tail -n 1 out)"
     expect "status, where rt does: $1" 1 "$status"
@@ -868,30 +920,32 @@ test_no_other_verdict_of_rt_passes() {
     expect_refusal 'echo "5 passed, 0 failed"; printf more' '0 passed, 1 failed'
     expect_refusal 'echo "nearly 5 passed, 0 failed"' '0 passed, 1 failed'
     expect_refusal 'echo "5 or so passed, 0 failed"' '0 passed, 1 failed'
+    expect_refusal 'echo "5 passed, 0 failed (zone and the crates below alone: not the gate)"' '0 passed, 1 failed'
     expect_refusal ':' '0 passed, 1 failed'
     expect_refusal 'exit 2' '0 passed, 1 failed'
 }
 
 test_behind_rt_come_the_day_the_launcher_and_the_comparison() {
     make_root
-    rt_does 'echo "rt: ok"; echo "5 passed, 0 failed"'
+    rt_does "$passes"
     run "$card" test
-    expect_all 0 'rt: ok
+    expect_all 0 "$well
 tests/launcher.sh ran
 bench/differential.sh ran
-5 passed, 0 failed' ''
+5 passed, 0 failed" ''
     expect 'calls of rt' ci "$(cat calls)"
 }
 
 test_what_fails_behind_rt_is_told_and_counted() {
     make_root
-    rt_does 'echo "5 passed, 0 failed"'
+    rt_does "$passes"
     echo 'echo the launcher; exit 1' >"$own/tests/launcher.sh"
     run "$card" test
-    expect_all 1 'the launcher
+    expect_all 1 "$well
+the launcher
 card: the launcher does not do what its tests ask
 bench/differential.sh ran
-5 passed, 1 failed' ''
+5 passed, 1 failed" ''
     echo 'echo the comparison >&2; exit 1' >"$own/bench/differential.sh"
     echo >>"$own/examples/day.log"
     run "$card" test
@@ -906,7 +960,7 @@ card: the log program and its witness in C differ
 
 test_a_sample_recipe_that_is_answered_otherwise_is_told_and_counted() {
     make_root
-    rt_does 'echo "5 passed, 0 failed"'
+    rt_does "$passes"
     for name_of in night night-refused; do
         cp "$root/examples/$name_of.recipe" "$own/examples/"
         echo >>"$own/examples/$name_of.recipe"
@@ -919,9 +973,19 @@ bench/differential.sh ran
         cp "$root/examples/$name_of.recipe" "$own/examples/"
     done
     run "$card" test
-    expect_all 0 'tests/launcher.sh ran
+    expect_all 0 "$well
+tests/launcher.sh ran
 bench/differential.sh ran
-5 passed, 0 failed' ''
+5 passed, 0 failed" ''
+}
+
+test_a_crate_folder_that_is_not_listed_is_told_before_anything_is_proved() {
+    make_root
+    mkdir "$own/crates/oven"
+    run "$card" test
+    expect_all 1 'card: crates/oven is not listed in crates.txt
+0 passed, 1 failed' ''
+    expect 'calls of rt' '' "$(cat calls)"
 }
 
 test_lines_of_rt_come_as_they_are_printed_but_for_the_last() {
@@ -929,25 +993,25 @@ test_lines_of_rt_come_as_they_are_printed_but_for_the_last() {
     rt_does 'echo "rt: one"; echo "rt: two"
 for turn in 1 2 3 4 5 6 7 8 9; do grep -q "rt: one" "$stand_ins/out" || sleep 1; done
 grep -q "rt: one" "$stand_ins/out" && echo "one was seen"
-echo "5 passed, 0 failed"'
+'"$passes"
     run "$card" test
-    expect_all 0 'rt: one
+    expect_all 0 "rt: one
 rt: two
 one was seen
+$well
 tests/launcher.sh ran
 bench/differential.sh ran
-5 passed, 0 failed' ''
+5 passed, 0 failed" ''
 }
 
 # ---- the program itself
 
 test_the_program_needs_little_stack() {
-    [ "$(uname -m)" = x86_64 ] || skip 'since the emulator has a stack of its own'
     (
         # The environment stands on the stack too, and is not the program's.
         for variable in $(env | sed -n 's/^\([A-Za-z_][A-Za-z0-9_]*\)=.*/\1/p'); do unset "$variable"; done
         ulimit -s 195 || exit 1
-        kit_run "$program" <"$day"
+        "$program" <"$day"
     ) >out 2>err
     status=$?
     expect_day
@@ -955,7 +1019,7 @@ test_the_program_needs_little_stack() {
 
 # ---- all of them
 
-program=$root/target/bin/cardlog speaker=$root/target/bin/cardsay loader=$root/target/bin/cardload
+program=$root/crates/cardlog/out/cardlog speaker=$root/crates/cardsay/out/cardsay loader=$root/crates/cardload/out/cardload
 for words in log 'say 300' 'load /dev/null /dev/null'; do
     # shellcheck disable=SC2086
     "$root/card" $words </dev/null >/dev/null || exit 1
