@@ -979,6 +979,30 @@ bench/differential.sh ran
 5 passed, 0 failed" ''
 }
 
+test_a_verdict_without_the_line_that_all_is_well_does_not_pass() {
+    make_root
+    well='rt: all is well'
+    expect_refusal 'echo "5 passed, 0 failed"' '0 passed, 1 failed'
+}
+
+test_wrong_programs_that_could_not_be_tried_are_told_and_counted() {
+    make_root
+    words='rt: ok; handles allowed: none; must-fail edits'
+    for said in '7 refused, 1 bad' '7 refused, 2 of them only by a limit, 1 bad'; do
+        well="$words: $said; done in this run: 0 of the 9 proofs and 0 of the 8 must-fail edits"
+        expect_refusal 'echo "5 passed, 0 failed"' '5 passed, 1 failed'
+        expect 'the line before' 'card: wrong programs that could not be tried: 1' "$(tail -n 2 out | head -n 1)"
+    done
+    well="$words: 7 refused, 10 bad; every proof and must-fail edit was done in this run"
+    expect_refusal 'echo "5 passed, 0 failed"' '5 passed, 10 failed'
+    for said in '7 refused, 0 bad' '7 refused, 2 of them only by a limit, 0 bad' '7 refused, 1 of them only by a limit'; do
+        rt_does "echo '$words: $said; every proof and must-fail edit was done in this run'; echo '5 passed, 0 failed'"
+        run "$card" test
+        expect 'the last line' '5 passed, 0 failed' "$(tail -n 1 out)"
+        expect "status, where rt says: $said" 0 "$status"
+    done
+}
+
 test_a_crate_folder_that_is_not_listed_is_told_before_anything_is_proved() {
     make_root
     mkdir "$own/crates/oven"
