@@ -779,6 +779,49 @@ test_a_lock_that_was_left_behind_holds_nobody_up() {
     expect 'what is left in target' 'card.log ' "$(ls "$own/target" | tr '\n' ' ')"
 }
 
+test_what_the_gate_has_built_is_run_until_something_changes() {
+    make_root
+    rt_does "$passes"
+    run "$card" test
+    expect 'status of the gate' 0 "$status"
+    rt_does "$unchanged"
+    : >calls
+    run "$card" log "$day"
+    expect_day
+    expect 'calls of rt where nothing has changed' '' "$(cat calls)"
+    # A file that is new, or has other contents, and a program that is not the one that the gate has built.
+    echo new >"$own/crates/zone/src/lib.rt"
+    run "$card" log "$day"
+    expect_day
+    rm "$own/crates/zone/src/lib.rt"
+    echo '# Another comment.' >>"$own/crates.txt"
+    run "$card" log "$day"
+    expect_day
+    sed '$d' "$own/crates.txt" >crates.txt
+    cp crates.txt "$own/"
+    run "$card" log "$day"
+    expect_day
+    expect 'calls of rt where something has' 'run in cardlog
+run in cardlog' "$(cat calls)"
+    : >calls
+    bench_build "$here/one_call.c" "$built" '-DCALL=_exit(7)'
+    run "$card" log "$day"
+    expect status 7 "$status"
+    expect 'calls of rt where the program is another' 'run in cardlog' "$(cat calls)"
+}
+
+test_what_changes_during_the_gate_is_proved_again() {
+    make_root
+    rt_does "echo new >crates/zone/src/lib.rt; $passes"
+    run "$card" test
+    expect 'status of the gate' 0 "$status"
+    rt_does "$unchanged"
+    run "$card" log "$day"
+    expect_day
+    expect 'calls of rt' 'ci
+run in cardlog' "$(cat calls)"
+}
+
 # A root with one small crate, and no stand-in for rt: the words of the real one are those that the launcher listens for.
 test_the_toolchain_proves_and_builds_what_is_run() {
     make_root
