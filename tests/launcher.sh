@@ -749,6 +749,14 @@ card: still at work (22 s)
 card: still at work (42 s)'
 }
 
+test_a_check_that_waits_for_another_rt_says_so() {
+    make_root
+    rt_does 'echo "rt: waiting for another rt to finish in crates/zone"
+'"$unchanged"
+    run "$card" log "$day"
+    expect_all 0 "$(cat "$answers")" 'card: waiting for another rt to finish in crates/zone'
+}
+
 test_two_checks_are_never_at_work_at_once() {
     make_root
     rt_does 'mkdir "$stand_ins/busy" || : >"$stand_ins/twice"
