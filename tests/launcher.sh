@@ -405,6 +405,17 @@ test_the_files_of_a_recipe_may_stand_anywhere() {
     expect_night
 }
 
+test_a_recipe_may_have_any_name() {
+    make_root
+    for odd in "$(printf 'a \377 recipe')" "$(printf 'a r\303\251cipe')"; do
+        cp "$night.recipe" "$odd" 2>/dev/null || skip 'no file can have such a name here'
+        run "$card" load "$setup" "$odd"
+        expect_night
+        run "$card" load - "$odd" <"$setup"
+        expect_night
+    done
+}
+
 test_a_recipe_has_up_to_64_lines() {
     make_root
     expect_recipe '' 0 loaded
