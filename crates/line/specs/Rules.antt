@@ -22,7 +22,7 @@ DigitField = (width : ℕ) (field : List ℕ) (n : ℕ) → (digits_of width fie
 abbrev pub LineLengths : Type 0
 LineLengths = map (length_of text_road) every_form ≡ 19 ∷ 23 ∷ 9 ∷ 15 ∷ 9 ∷ []
 
--- the line of a command that the road carries is read as that command. `line_reads_lem`, in proofs/Round.antt
+-- the line of a command that the road carries is read as that command. `line_reads`, in proofs/Round.antt
 abbrev pub LineReads : Type 0
 LineReads = (command : Command) → carries_command text_road command ≡ true → line_read (line_of command) ≡ Known command
 

@@ -16,7 +16,7 @@ sent_singly r recipe room = in_turn r (sendings (lines_of recipe)) room
 
 -- ---- when each number is given
 
--- each number exactly where its test holds and no earlier one does, 0 exactly where none holds, and in loadOrder's order: `load_exactly` and `load_order_lem`, in proofs/Told.antt
+-- each number exactly where its test holds and no earlier one does, 0 exactly where none holds, and in load_order's order: `load_exactly` and `load_order_lem`, in proofs/Told.antt
 abbrev pub LoadExactly : Type 0
 LoadExactly = (r : Record) (recipe room : List ℕ) → ExactlyWhen (load_rows r recipe room) (load_of r recipe room).answered.said.number
 
