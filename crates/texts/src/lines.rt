@@ -1,10 +1,10 @@
-// Where a line of a text ends.
+// Where a byte is first found, and where a line of a text ends.
 ghost use Rattle.std.specs.Prelude.{◌≡◌, ◌+◌, ◌≤◌, length, drop};
 ghost use Rattle.texts.specs.Texts.{line_feed, index_of};
 ghost use Rattle.texts.specs.Inner.{has_feed};
 
 // The index of the first x from `from` on, or the bytes' length.
-pub fn find(bytes: &[u8], from: usize, x: u8) -> usize
+pub(crate) fn find(bytes: &[u8], from: usize, x: u8) -> usize
     requires { from ≤ length bytes.now }
     ensures place { result ≡ from + index_of x (drop from bytes.now) }
     ensures bound { result ≤ length bytes.now }
