@@ -12,20 +12,19 @@ use Rattle.zone.specs.declared.zones.Zone.{Zone}
 use Rattle.zone.specs.Zones.{empty_zone, holds}
 use Rattle.zone.proofs.Tests.{never, both, or_true}
 use Rattle.card.specs.declared.records.Record.{Record}
-use Rattle.card.specs.declared.records.Found.{Found}
-use Rattle.card.specs.declared.records.Found.TheVariants.{At, Nowhere}
+use Rattle.std.specs.Prelude.{Option, Some, None}
 use Rattle.card.specs.Records.{zone_at, held_in, differ, sound, no_zone, find_of}
 use Rattle.card.specs.Rules.{FirstToHold}
 use Rattle.card.proofs.Storing.{differ_parts, sound_parts}
 use Rattle.card.proofs.Searches.{found_from, nowhere_from}
 
-is_first : (r : Record) (a n : ℕ) → find_of r a ≡ At n → FirstToHold r a n
+is_first : (r : Record) (a n : ℕ) → find_of r a ≡ Some n → FirstToHold r a n
 is_first r a n e =
     let f = found_from 0 r.zones a n e in
     let p : n ≡ f.i = omega (arith, f.place) in
     record { here = rw p f.here; earlier = λ m l. f.earlier m (omega arith) }
 
-none_holds : (r : Record) (a : ℕ) → find_of r a ≡ Nowhere → (m : ℕ) → holds a (zone_at r m) ≡ false
+none_holds : (r : Record) (a : ℕ) → find_of r a ≡ None → (m : ℕ) → holds a (zone_at r m) ≡ false
 none_holds r a e = nowhere_from 0 r.zones a e
 
 -- of two first zones neither is before the other
@@ -37,27 +36,27 @@ one_first r a n k f g = by_order (ltb k n) (ltb n k) refl refl
     by_order false true e v = never (sym (g.earlier n (ltb-true n k v)) ∙ f.here)
     by_order false false e v = omega (arith, ltb-false k n e, ltb-false n k v)
 
-pub found_first : (r : Record) (address n : ℕ) → (find_of r address ≡ At n) ↔ FirstToHold r address n
+pub found_first : (r : Record) (address n : ℕ) → (find_of r address ≡ Some n) ↔ FirstToHold r address n
 found_first r address n = (is_first r address n, λ f. by_found (find_of r address) refl f)
   where
-    by_found : (x : Found) → find_of r address ≡ x → FirstToHold r address n → find_of r address ≡ At n
-    by_found (At k) e f = e ∙ ap At (one_first r address n k f (is_first r address k e))
-    by_found Nowhere e f = never (sym (none_holds r address e n) ∙ f.here)
+    by_found : (x : Option ℕ) → find_of r address ≡ x → FirstToHold r address n → find_of r address ≡ Some n
+    by_found (Some k) e f = e ∙ ap Some (one_first r address n k f (is_first r address k e))
+    by_found None e f = never (sym (none_holds r address e n) ∙ f.here)
 
-pub found_nowhere : (r : Record) (address : ℕ) → (find_of r address ≡ Nowhere) ↔ ((m : ℕ) → holds address (zone_at r m) ≡ false)
+pub found_nowhere : (r : Record) (address : ℕ) → (find_of r address ≡ None) ↔ ((m : ℕ) → holds address (zone_at r m) ≡ false)
 found_nowhere r address = (none_holds r address, λ h. by_found (find_of r address) refl h)
   where
-    by_found : (x : Found) → find_of r address ≡ x → ((m : ℕ) → holds address (zone_at r m) ≡ false) → find_of r address ≡ Nowhere
-    by_found (At k) e h = never (sym (h k) ∙ (is_first r address k e).here)
-    by_found Nowhere e h = e
+    by_found : (x : Option ℕ) → find_of r address ≡ x → ((m : ℕ) → holds address (zone_at r m) ≡ false) → find_of r address ≡ None
+    by_found (Some k) e h = never (sym (h k) ∙ (is_first r address k e).here)
+    by_found None e h = e
 
 -- two records whose zones hold an address alike find it alike
 pub find_alike : (r r' : Record) (address : ℕ) → ((m : ℕ) → holds address (zone_at r m) ≡ holds address (zone_at r' m)) → find_of r address ≡ find_of r' address
 find_alike r r' address same = by_found (find_of r address) refl
   where
-    by_found : (x : Found) → find_of r address ≡ x → x ≡ find_of r' address
-    by_found (At n) e = let f = is_first r address n e in sym ((found_first r' address n).1 (record { here = sym (same n) ∙ f.here; earlier = λ m l. sym (same m) ∙ f.earlier m l }))
-    by_found Nowhere e = sym ((found_nowhere r' address).1 (λ m. sym (same m) ∙ none_holds r address e m))
+    by_found : (x : Option ℕ) → find_of r address ≡ x → x ≡ find_of r' address
+    by_found (Some n) e = let f = is_first r address n e in sym ((found_first r' address n).1 (record { here = sym (same n) ∙ f.here; earlier = λ m l. sym (same m) ∙ f.earlier m l }))
+    by_found None e = sym ((found_nowhere r' address).1 (λ m. sym (same m) ∙ none_holds r address e m))
 
 -- above 15 a sound record has the empty zone
 pub past_empty : (r : Record) (n : ℕ) → sound r ≡ true → 16 ≤ n → zone_at r n ≡ empty_zone
@@ -72,7 +71,7 @@ present_below r n s p = by_place (ltb n 16) refl
     by_place false k = never (ap (λ (z : Zone). z.present) (sym (past_empty r n s (ltb-false n 16 k))) ∙ p)
 
 -- in a sound record what is found is a present zone
-pub found_there : (r : Record) (address n : ℕ) → sound r ≡ true → find_of r address ≡ At n → no_zone r n ≡ false
+pub found_there : (r : Record) (address n : ℕ) → sound r ≡ true → find_of r address ≡ Some n → no_zone r n ≡ false
 found_there r address n s e =
     let here = (is_first r address n e).here in
     let present = (both (zone_at r n).present (eqb (zone_at r n).address address) here).0 in
@@ -95,12 +94,12 @@ one_holder (z ∷ zs) a zero (suc n) d l h k =
 one_holder (z ∷ zs) a (suc m) zero d l h k = omega arith
 one_holder (z ∷ zs) a (suc m) (suc n) d l h k = one_holder zs a m n (differ_parts z zs d).1 (omega arith) h k
 
-pub find_held : (r : Record) (a n : ℕ) → sound r ≡ true → holds a (zone_at r n) ≡ true → find_of r a ≡ At n
+pub find_held : (r : Record) (a n : ℕ) → sound r ≡ true → holds a (zone_at r n) ≡ true → find_of r a ≡ Some n
 find_held r a n s here = (found_first r a n).1 (record { here = here; earlier = λ m l. by_test m l (holds a (zone_at r m)) refl })
   where
     by_test : (m : ℕ) → m < n → (t : Bool) → holds a (zone_at r m) ≡ t → t ≡ false
     by_test m l true e = absurd (one_holder r.zones a m n (sound_parts r s).addresses l e here)
     by_test m l false e = refl
 
-pub find_own : (r : Record) (n : ℕ) → sound r ≡ true → (zone_at r n).present ≡ true → find_of r (zone_at r n).address ≡ At n
+pub find_own : (r : Record) (n : ℕ) → sound r ≡ true → (zone_at r n).present ≡ true → find_of r (zone_at r n).address ≡ Some n
 find_own r n s p = find_held r (zone_at r n).address n s (rw (p, eq-eqb (zone_at r n).address (zone_at r n).address refl))

@@ -4,6 +4,7 @@ use mathlib.Core.Path.{◌≡◌, refl, sym, ap, ◌∙◌}
 use mathlib.Core.Bool.{Bool, true, false, cond, not}
 use mathlib.Core.List.{List, [], ◌∷◌}
 use native.Mathlib.Omega.{arith}
+use Rattle.std.specs.Prelude.{Ok, Err}
 use lib.Seq.{set-get_or}
 use lib.Dec.{leb}
 use borrow.Author.Tests.{leb-false}
@@ -14,17 +15,14 @@ use Rattle.zone.specs.Zones.{empty_zone}
 use Rattle.zone.proofs.Tests.{never, neither}
 use Rattle.card.specs.declared.answers.Refusal.{Refusal}
 use Rattle.card.specs.declared.answers.Refusal.TheVariants.{NotSound, NoZone}
-use Rattle.card.specs.declared.judgements.Asked.TheVariants.{Failed}
 use Rattle.card.specs.declared.judgements.Verdict.{Verdict}
 use Rattle.card.specs.declared.judgements.Verdict.TheVariants.{Refuses, Tells, Writes, Reports, Adds, Removes, Chooses, Rebooks}
-use Rattle.card.specs.declared.records.Reached.{Reached}
-use Rattle.card.specs.declared.records.Reached.TheVariants.{There, Stopped}
 use Rattle.card.specs.declared.records.Record.{Record}
 use Rattle.card.specs.Answers.{Result, refusal_number}
 use Rattle.card.specs.Refusals.{Row, first, settled, ◌gives◌}
 use Rattle.card.specs.Records.{zone_at, with_zone, sound, no_zone}
 use Rattle.card.specs.Calls.{Judgement, at_zone}
-use Rattle.card.specs.Inner.{alters_by, after_by, reach_of, judged, stored, ask_at}
+use Rattle.card.specs.Inner.{alters_by, after_by, Reached, reach_of, judged, stored, ask_at}
 
 -- to store the zone that stands there already is to store nothing
 pub same_zone : (r : Record) (n : ℕ) → with_zone r n (zone_at r n) ≡ r
@@ -54,7 +52,7 @@ stored_settled r n rows values z = by_done (is_zero (first rows))
     by_done false = ap (λ (x : Record). record { number = first rows; values = []; after = x }) (same_zone r n)
 
 -- a zone that is asked what was refused already leaves everything as it is
-pub refused_judged : (z : Zone) (why : Refusal) → record { number = refusal_number why; values = []; after = z } ≡ judged z (ask_at z (Failed why))
+pub refused_judged : (z : Zone) (why : Refusal) → record { number = refusal_number why; values = []; after = z } ≡ judged z (ask_at z (Err why))
 refused_judged z why = by_done (is_zero (refusal_number why))
   where
     by_done : (done : Bool)
@@ -66,15 +64,15 @@ refused_judged z why = by_done (is_zero (refusal_number why))
 
 -- what stands at zone n of r, by the tests of soundness and of the zone
 abbrev reach_by : Bool → Bool → Record → ℕ → Reached
-reach_by s t r n = cond (not s) (Stopped NotSound) (cond t (Stopped NoZone) (There (zone_at r n)))
+reach_by s t r n = cond (not s) (Err NotSound) (cond t (Err NoZone) (Ok (zone_at r n)))
 
 -- where nothing is reached, the call is refused for that reason, whatever it asks
-pub stopped : (r : Record) (n : ℕ) (why : Refusal) (j : Judgement) → reach_of r n ≡ Stopped why
+pub stopped : (r : Record) (n : ℕ) (why : Refusal) (j : Judgement) → reach_of r n ≡ Err why
     → record { number = refusal_number why; values = []; after = r } ≡ at_zone r n j
 unfolding reach_of
 stopped r n why j e = by_tests (sound r) (no_zone r n) e
   where
-    by_tests : (s t : Bool) → reach_by s t r n ≡ Stopped why
+    by_tests : (s t : Bool) → reach_by s t r n ≡ Err why
         → record { number = refusal_number why; values = []; after = r } ≡ settled r ((not s gives 2) ∷ (t gives 3) ∷ j.rows) j.values (with_zone r n j.after)
     by_tests false t e = let w : why ≡ NotSound = cc in rw w
     by_tests true true e = let w : why ≡ NoZone = cc in rw w
@@ -91,17 +89,17 @@ pub record Reaches (r : Record) (n : ℕ) (z : Zone) : Type 0 where
 pub named_below : (r : Record) (n : ℕ) → no_zone r n ≡ false → n < 16
 named_below r n e = leb-false 16 n (neither (leb 16 n) (not (zone_at r n).present) e).0
 
-pub reaches : (r : Record) (n : ℕ) (z : Zone) → reach_of r n ≡ There z → Reaches r n z
+pub reaches : (r : Record) (n : ℕ) (z : Zone) → reach_of r n ≡ Ok z → Reaches r n z
 unfolding reach_of
 reaches r n z e = by_tests (sound r) (no_zone r n) refl refl e
   where
-    by_tests : (s t : Bool) → sound r ≡ s → no_zone r n ≡ t → reach_by s t r n ≡ There z → Reaches r n z
+    by_tests : (s t : Bool) → sound r ≡ s → no_zone r n ≡ t → reach_by s t r n ≡ Ok z → Reaches r n z
     by_tests false t p q e = absurd (let z : ◌≡◌ {A = ℕ} 0 1 = cc in omega arith)
     by_tests true true p q e = absurd (let z : ◌≡◌ {A = ℕ} 0 1 = cc in omega arith)
     by_tests true false p q e = record { zone = cc; below = named_below r n q; sound_record = p; there = q }
 
 -- where the zone is reached, the call comes to what the zone decides
-pub at_zone_lem : (r : Record) (n : ℕ) (z : Zone) (seen : Zone → Result Zone) (j : Zone → Judgement) → reach_of r n ≡ There z → seen z ≡ judged z (j z)
+pub at_zone_lem : (r : Record) (n : ℕ) (z : Zone) (seen : Zone → Result Zone) (j : Zone → Judgement) → reach_of r n ≡ Ok z → seen z ≡ judged z (j z)
     → stored r n (seen (zone_at r n)) ≡ at_zone r n (j (zone_at r n))
 at_zone_lem r n z seen j e h =
     let k = reaches r n z e in

@@ -1,13 +1,13 @@
 -- The two loops of a repair: the old ends that are gathered, and the zones that are mended. Assumes nothing.
 use Prim.Native.Nat.{ℕ, zero, suc, ◌+◌, ◌-◌, ◌≤◌, ◌<◌}
-use mathlib.Core.Path.{◌≡◌, refl, sym, ap, ◌∙◌}
+use mathlib.Core.Path.{◌≡◌, sym, ap, ◌∙◌}
 use mathlib.Core.Bool.{true, false}
-use mathlib.Core.List.{List, [], ◌∷◌, ◌++◌, map, append_assoc, append-nil}
+use mathlib.Core.List.{List, [], ◌∷◌, ◌++◌, map}
 use native.Mathlib.Omega.{arith}
 use native.Mathlib.Numerals.{add-one}
 use native.Mathlib.Nat.{zero-add}
 use lib.ListN.{length, get_or, set, take, drop, replicate, length-set, drop_of_length-le}
-use lib.Seq.{drop-cons, sets, sets-eq, take-suc-set, take_all}
+use lib.Seq.{drop-cons, sets, sets-eq}
 use Rattle.zone.specs.declared.zones.Zone.{Zone}
 use Rattle.zone.specs.Zones.{window_opens, mended, end_of}
 use Rattle.card.specs.declared.records.OldEnd.{OldEnd}
@@ -29,9 +29,6 @@ pub record Gathers (zs : List Zone) (ends : List OldEnd) (count i : ℕ) : Type 
   pub room : length ends ≡ 16
   pub whole : sets no_ends 0 (old_ends_from 0 zs) ≡ sets ends count (old_ends_from i (drop i zs))
   pub total : count + length (old_ends_from i (drop i zs)) ≡ length (old_ends_from 0 zs)
-
-pub gathers_start : (zs : List Zone) → Gathers zs no_ends 0 0
-gathers_start zs = record { below = omega arith; counted = omega arith; room = refl; whole = refl; total = omega arith }
 
 -- what is left before the turn of zone i, by its window
 module _ (zs : List Zone) (i : ℕ) (d : Zone) (h : i < length zs) where
@@ -95,28 +92,3 @@ pub record MendsTo (zs after : List Zone) (i : ℕ) : Type 0 where
   pub below : i ≤ 16
   pub room : length after ≡ 16
   pub whole : map mended zs ≡ take i after ++ map mended (drop i zs)
-
-pub mends_start : (zs : List Zone) → length zs ≡ 16 → MendsTo zs zs 0
-mends_start zs h = record { below = omega arith; room = h; whole = refl }
-
-pub mends_turn : (zs after : List Zone) (i : ℕ) (d : Zone) → i < length zs → i < 16 → MendsTo zs after i → MendsTo zs (set after i (mended (get_or zs i d))) (i + 1)
-mends_turn zs after i d h l g =
-    let x = mended (get_or zs i d) in
-    record {
-      below = omega arith;
-      room = length-set after i x ∙ g.room;
-      whole =
-          g.whole
-          ∙ ap (λ (left : List Zone). take i after ++ map mended left) (drop-cons zs i d h)
-          ∙ sym (append_assoc (take i after) (x ∷ []) (map mended (drop (suc i) zs)))
-          ∙ ap (λ (front : List Zone). front ++ map mended (drop (suc i) zs)) (sym (take-suc-set after i x (omega (arith, g.room))))
-          ∙ ap (λ (k : ℕ). take k (set after i x) ++ map mended (drop k zs)) (sym (add-one i));
-    }
-
-pub mends_end : (zs after : List Zone) (i : ℕ) → length zs ≤ i → 16 ≤ i → MendsTo zs after i → after ≡ map mended zs
-mends_end zs after i h k g =
-    sym
-    (g.whole
-    ∙ ap (λ (left : List Zone). take i after ++ map mended left) (drop_of_length-le zs h)
-    ∙ append-nil (take i after)
-    ∙ take_all i after (omega (arith, g.room)))

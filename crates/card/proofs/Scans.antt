@@ -1,38 +1,33 @@
--- One turn, and the end, of each loop over the zones: what is gathered and what is left make the whole. Assumes nothing.
+-- What is found by going through the zones, in the words of the definitions. Assumes nothing.
 use Prim.Native.Nat.{ℕ, suc, ◌+◌, ◌<◌, ◌≤◌}
 use mathlib.Core.Path.{◌≡◌, refl, sym, ap, ◌∙◌}
-use mathlib.Core.Bool.{Bool, true, false, cond, not, ◌&&◌, ◌||◌, and_assoc, or_assoc, and-true, or-false}
+use mathlib.Core.Bool.{Bool, true, false, cond, not, ◌&&◌, ◌||◌, and_assoc, and-true}
 use mathlib.Core.List.{List, [], ◌∷◌, map}
 use native.Mathlib.Numerals.{add-one}
+use native.Mathlib.Omega.{arith}
 use lib.ListN.{length, get_or, drop, drop_of_length-le, length-map}
 use lib.Seq.{drop-cons}
+use Rattle.std.specs.List.{list_any}
+use Rattle.std.specs.Option.{is_some}
 use Rattle.zone.specs.declared.zones.Zone.{Zone}
-use Rattle.zone.specs.Lists.{every, some}
+use Rattle.zone.specs.Lists.{some}
 use Rattle.zone.specs.Zones.{holds}
 use Rattle.card.specs.Records.{held_in, differ, find_from}
-use Rattle.card.specs.declared.records.Found.{Found}
-use Rattle.card.specs.declared.records.Found.TheVariants.{At, Nowhere}
+use Rattle.std.specs.Prelude.{Some, None}
 
 -- an array's length, as owning a struct that holds it tells it: there its elements stand under a map
 pub length_mapped : (X Y : Type 0) (f : X → Y) (l : List X) (n : ℕ) → length (map f l) ≡ n → length l ≡ n
 length_mapped X Y f l n e = sym (length-map l f) ∙ e
 
--- ---- what is left before zone i, by zone i and what is left after it
+-- std's words for what the definitions say
+pub some_any : (test : Zone → Bool) (zs : List Zone) → list_any test zs ≡ some test zs
+some_any test [] = refl
+some_any test (z ∷ zs) = rw (some_any test zs)
+
+-- ---- the search for an address, before zone i and where no zone is left
 
 module _ (i : ℕ) (zs : List Zone) (d : Zone) (h : i < length zs) where
-  pub every_step : (test : Zone → Bool) → every test (drop i zs) ≡ (test (get_or zs i d) && every test (drop (i + 1) zs))
-  every_step test = rw (add-one, drop-cons zs i d)
-
-  pub some_step : (test : Zone → Bool) → some test (drop i zs) ≡ (test (get_or zs i d) || some test (drop (i + 1) zs))
-  some_step test = rw (add-one, drop-cons zs i d)
-
-  -- a turn of the loop that compares addresses, whose inner loop has gathered `held`
-  pub differ_turn : (ok held : Bool) → differ zs ≡ (ok && differ (drop i zs)) → held ≡ held_in (drop (i + 1) zs) (get_or zs i d).address
-      → differ zs ≡ (ok && not ((get_or zs i d).present && held) && differ (drop (i + 1) zs))
-  unfolding differ
-  differ_turn ok held inv e = rw (e, and_assoc, inv) (rw (add-one, drop-cons zs i d))
-
-  pub find_hit : (a : ℕ) → holds a (get_or zs i d) ≡ true → find_from i (drop i zs) a ≡ At i
+  pub find_hit : (a : ℕ) → holds a (get_or zs i d) ≡ true → find_from i (drop i zs) a ≡ Some i
   unfolding find_from
   find_hit a e = rw (drop-cons zs i d, e)
 
@@ -40,54 +35,37 @@ module _ (i : ℕ) (zs : List Zone) (d : Zone) (h : i < length zs) where
   unfolding find_from
   find_miss a e = rw (add-one, drop-cons zs i d, e)
 
-module _ (i : ℕ) (zs : List Zone) (h : length zs ≤ i) where
-  pub every_end : (test : Zone → Bool) → every test (drop i zs) ≡ true
-  every_end test = rw (drop_of_length-le zs)
+pub find_end : (i : ℕ) (zs : List Zone) → length zs ≤ i → (a : ℕ) → find_from i (drop i zs) a ≡ None
+unfolding find_from
+find_end i zs h a = rw (drop_of_length-le zs)
 
-  pub some_end : (test : Zone → Bool) → some test (drop i zs) ≡ false
-  some_end test = rw (drop_of_length-le zs)
+-- ---- addresses compared with those behind them
 
-  pub differ_end : differ (drop i zs) ≡ true
-  unfolding differ
-  differ_end = rw (drop_of_length-le zs)
+-- a turn of the loop that compares addresses, whose search behind zone z has found `held`
+pub differ_turn : (zs later : List Zone) (z : Zone) (whole ok held : Bool) → zs ≡ z ∷ later → whole ≡ (ok && differ zs) → held ≡ held_in later z.address
+    → whole ≡ ((ok && not (z.present && held)) && differ later)
+unfolding differ
+differ_turn zs later z whole ok held e inv h = rw (inv, e, h, and_assoc)
 
-  pub find_end : (a : ℕ) → find_from i (drop i zs) a ≡ Nowhere
-  unfolding find_from
-  find_end a = rw (drop_of_length-le zs)
-
--- ---- a loop that gathers tests into a flag: w is the whole, s and t what is left of it before and after the turn, p the turn's test and r its value
-
-pub and_turn : (ok w s r p t : Bool) → w ≡ (ok && s) → r ≡ p → s ≡ (p && t) → w ≡ ((ok && r) && t)
-and_turn ok w s r p t inv e step = rw (e, and_assoc ok p t, ← step) inv
-
-pub or_turn : (ok w s r p t : Bool) → w ≡ (ok || s) → r ≡ p → s ≡ (p || t) → w ≡ ((ok || r) || t)
-or_turn ok w s r p t inv e step = rw (e, or_assoc ok p t, ← step) inv
-
-pub and_end : (w ok s : Bool) → w ≡ (ok && s) → s ≡ true → ok ≡ w
-and_end w ok s inv e = rw (inv, e, and-true)
-
-pub or_end : (w ok s : Bool) → w ≡ (ok || s) → s ≡ false → ok ≡ w
-or_end w ok s inv e = rw (inv, e, or-false)
+-- where no zone is left, it has gathered all
+pub differ_end : (zs : List Zone) (whole ok : Bool) → length zs ≡ 0 → whole ≡ (ok && differ zs) → ok ≡ whole
+unfolding differ
+differ_end [] whole ok e inv = sym (inv ∙ and-true ok)
+differ_end (z ∷ zs) whole ok e inv = absurd (omega (arith, e))
 
 -- ---- an address is found where some present zone holds it
 
-is_found : Found → Bool
-is_found (At n) = true
-is_found Nowhere = false
-
-found_held : (k : ℕ) (zs : List Zone) (a : ℕ) → is_found (find_from k zs a) ≡ held_in zs a
-unfolding find_from is_found
+pub found_held : (k : ℕ) (zs : List Zone) (a : ℕ) → is_some (find_from k zs a) ≡ held_in zs a
+unfolding find_from
 found_held k [] a = refl
 found_held k (z ∷ zs) a = by_first (holds a z) (found_held (suc k) zs a)
   where
-    by_first : (t : Bool) → is_found (find_from (suc k) zs a) ≡ held_in zs a → is_found (cond t (At k) (find_from (suc k) zs a)) ≡ (t || held_in zs a)
+    by_first : (t : Bool) → is_some (find_from (suc k) zs a) ≡ held_in zs a → is_some (cond t (Some k) (find_from (suc k) zs a)) ≡ (t || held_in zs a)
     by_first true e = refl
     by_first false e = e
 
-pub found_somewhere : (zs : List Zone) (a n : ℕ) → find_from 0 zs a ≡ At n → true ≡ held_in zs a
-unfolding is_found
-found_somewhere zs a n e = ap is_found (sym e) ∙ found_held 0 zs a
+pub found_somewhere : (zs : List Zone) (a n : ℕ) → find_from 0 zs a ≡ Some n → true ≡ held_in zs a
+found_somewhere zs a n e = ap is_some (sym e) ∙ found_held 0 zs a
 
-pub found_nowhere : (zs : List Zone) (a : ℕ) → find_from 0 zs a ≡ Nowhere → false ≡ held_in zs a
-unfolding is_found
-found_nowhere zs a e = ap is_found (sym e) ∙ found_held 0 zs a
+pub found_nowhere : (zs : List Zone) (a : ℕ) → find_from 0 zs a ≡ None → false ≡ held_in zs a
+found_nowhere zs a e = ap is_some (sym e) ∙ found_held 0 zs a

@@ -12,7 +12,7 @@ use Rattle.card.specs.declared.answers.Refusal.TheVariants.{NoRoom, NotSound, No
 use Rattle.card.specs.declared.answers.Answer.{Answer}
 use Rattle.card.specs.declared.answers.Answer.TheVariants.{Done, Told, Refused}
 use Rattle.card.specs.declared.records.Record.{Record}
-use Rattle.card.specs.declared.records.Found.{Found}
+use Rattle.std.specs.Prelude.{Option}
 use Rattle.card.specs.declared.records.Outcome.{Outcome}
 use Rattle.card.specs.declared.records.Repaired.{Repaired}
 use Rattle.card.specs.Answers.{Result, refusal_number, number_of, values_of, outcome_seen}
@@ -117,7 +117,7 @@ ship_unique r n kg o o' p q = one_outcome o o' (p ∙ sym q)
 pub merge_unique : (r : Record) (a b : ℕ) (o o' : Outcome) → merge.Post tt (r, (a, (b, tt))) o (r, (a, (b, tt))) → merge.Post tt (r, (a, (b, tt))) o' (r, (a, (b, tt))) → o ≡ o'
 merge_unique r a b o o' p q = one_outcome o o' (p ∙ sym q)
 
-pub find_unique : (r : Record) (address : ℕ) (f f' : Found) → find.Post tt (r, (address, tt)) f (r, (address, tt)) → find.Post tt (r, (address, tt)) f' (r, (address, tt)) → f ≡ f'
+pub find_unique : (r : Record) (address : ℕ) (f f' : Option ℕ) → find.Post tt (r, (address, tt)) f (r, (address, tt)) → find.Post tt (r, (address, tt)) f' (r, (address, tt)) → f ≡ f'
 find_unique r address f f' p q = p ∙ sym q
 
 pub is_sound_unique : (r : Record) (t t' : Bool) → is_sound.Post tt (r, tt) t (r, tt) → is_sound.Post tt (r, tt) t' (r, tt) → t ≡ t'

@@ -14,7 +14,7 @@ use Rattle.zone.specs.Figures.{each_in_range, in_range, all_zero}
 use Rattle.zone.specs.declared.zones.Zone.{Zone}
 use Rattle.zone.specs.Zones.{new_zone, empty_zone, zone_otherwise_sound, zone_sound, state_numbered, with_status, with_watch, with_origin, with_kilograms}
 use Rattle.card.specs.declared.records.Record.{Record}
-use Rattle.card.specs.declared.records.Found.TheVariants.{At, Nowhere}
+use Rattle.std.specs.Prelude.{Some, None}
 use Rattle.card.specs.Answers.{Result}
 use Rattle.card.specs.Records.{empty_record, with_zone, differ, otherwise_sound, sound, find_from, find_of}
 use Rattle.card.specs.Calls.{add_of, remove_of, report_of, apply_of, choose_source_of, setpoint_told, setpoint_in_use_of, book_of, ship_of, merge_of, old_ends_from, repair_of}
@@ -156,7 +156,7 @@ unfolding deadline_of window_of start add_of apply_of sound otherwise_sound diff
 last_form = refl
 
 -- the address is found at its zone; an absent zone holds none, not even 0
-found : map (find_of start) (33 ∷ 34 ∷ 0 ∷ 65569 ∷ []) ≡ At 5 ∷ Nowhere ∷ Nowhere ∷ Nowhere ∷ []
+found : map (find_of start) (33 ∷ 34 ∷ 0 ∷ 65569 ∷ []) ≡ Some 5 ∷ None ∷ None ∷ None ∷ []
 unfolding start add_of sound otherwise_sound differ zone_sound zone_otherwise_sound in_range each_in_range all_zero find_from
 found = refl
 

@@ -1,18 +1,17 @@
 -- What the functions below the calls come to. No rule of document 01 or 02 stands here, and no promise of a call that they name cites it; `ask`, which the roads call, is promised by ask_of below.
 -- So is `range_at`, by range_at.
-use Rattle.std.specs.Prelude.{ℕ, Bool, true, false, cond, not, [], ◌∷◌, leb}
+use Rattle.std.specs.Prelude.{ℕ, Bool, true, false, cond, not, Ok, Err, [], ◌∷◌, leb}
+use Rattle.std.specs.Prelude as std
 use Rattle.zone.specs.declared.zones.Zone.{Zone}
 use Rattle.zone.specs.Zones.{new_zone, empty_zone, with_status, with_figures, with_origin, with_kilograms}
+use Rattle.zone.specs.declared.figures.Command.{Command}
+use Rattle.card.specs.declared.answers.Refusal.{Refusal}
 use Rattle.card.specs.declared.answers.Refusal.TheVariants.{NotSound, NoZone}
 use Rattle.card.specs.declared.answers.Answer.{Answer}
 use Rattle.card.specs.declared.answers.Answer.TheVariants as answer
-use Rattle.card.specs.declared.judgements.Asked.{Asked}
-use Rattle.card.specs.declared.judgements.Asked.TheVariants.{Sent, Failed}
 use Rattle.card.specs.declared.judgements.Verdict.{Verdict}
 use Rattle.card.specs.declared.judgements.Verdict.TheVariants.{Refuses, Tells, Writes, Reports, Adds, Removes, Chooses, Rebooks}
 use Rattle.card.specs.declared.records.Record.{Record}
-use Rattle.card.specs.declared.records.Reached.{Reached}
-use Rattle.card.specs.declared.records.Reached.TheVariants.{There, Stopped}
 use Rattle.card.specs.Answers.{Result, refusal_number, number_of, values_of}
 use Rattle.card.specs.Refusals.{◌gives◌, settled}
 use Rattle.card.specs.Records.{zone_at, with_zone, sound, no_zone}
@@ -23,8 +22,11 @@ abbrev pub range_at : Record → ℕ → ℕ
 range_at r n = cond (leb 16 n) 0 (zone_at r n).range
 
 -- the zone that a call is to work on, or the refusal that the call ends with
+abbrev pub Reached : Type 0
+Reached = std.Result Zone Refusal
+
 unfoldable pub reach_of : Record → ℕ → Reached
-reach_of r n = cond (not (sound r)) (Stopped NotSound) (cond (no_zone r n) (Stopped NoZone) (There (zone_at r n)))
+reach_of r n = cond (not (sound r)) (Err NotSound) (cond (no_zone r n) (Err NoZone) (Ok (zone_at r n)))
 
 -- ---- what a zone decides
 
@@ -71,9 +73,12 @@ abbrev pub stored : Record → ℕ → Result Zone → Result Record
 stored r n decided = record { number = decided.number; values = decided.values; after = with_zone r n decided.after }
 
 -- a command that came by a road, or the refusal that its bytes met with before it reached the zone
+abbrev pub Asked : Type 0
+Asked = std.Result Command Refusal
+
 abbrev pub ask_at : Zone → Asked → Judgement
-ask_at z (Sent command) = command_at z command
-ask_at z (Failed why) = record { rows = (true gives refusal_number why) ∷ []; values = []; after = z }
+ask_at z (Ok command) = command_at z command
+ask_at z (Err why) = record { rows = (true gives refusal_number why) ∷ []; values = []; after = z }
 
 unfoldable pub ask_of : Record → ℕ → Asked → Result Record
 ask_of r n asked = at_zone r n (ask_at (zone_at r n) asked)

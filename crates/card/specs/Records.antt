@@ -1,11 +1,9 @@
 -- The record: its sixteen zones, when it is sound, and where an address is held.
-use Rattle.std.specs.Prelude.{ℕ, suc, Bool, true, cond, not, ◌&&◌, ◌||◌, List, [], ◌∷◌, length, get_or, set, replicate, leb, eqb}
+use Rattle.std.specs.Prelude.{ℕ, suc, Bool, true, cond, not, ◌&&◌, ◌||◌, Option, Some, None, List, [], ◌∷◌, length, get_or, set, replicate, leb, eqb}
 use Rattle.zone.specs.declared.zones.Zone.{Zone}
 use Rattle.zone.specs.Lists.{every, some}
 use Rattle.zone.specs.Zones.{empty_zone, zone_otherwise_sound, zone_sound, holds}
 use Rattle.card.specs.declared.records.Record.{Record}
-use Rattle.card.specs.declared.records.Found.{Found}
-use Rattle.card.specs.declared.records.Found.TheVariants.{At, Nowhere}
 
 -- sixteen times the empty zone
 abbrev pub empty_record : Record
@@ -44,11 +42,11 @@ unfoldable pub otherwise_sound : Record → Bool
 otherwise_sound r = sound_by zone_otherwise_sound r
 
 -- "An address is looked up from zone 0 upward; the search ends at the first zone that holds it"
-unfoldable pub find_from : ℕ → List Zone → ℕ → Found
-find_from n [] address = Nowhere
-find_from n (z ∷ zones) address = cond (holds address z) (At n) (find_from (suc n) zones address)
+unfoldable pub find_from : ℕ → List Zone → ℕ → Option ℕ
+find_from n [] address = None
+find_from n (z ∷ zones) address = cond (holds address z) (Some n) (find_from (suc n) zones address)
 
-abbrev pub find_of : Record → ℕ → Found
+abbrev pub find_of : Record → ℕ → Option ℕ
 find_of r address = find_from 0 r.zones address
 
 -- "zone above 15, or absent"

@@ -10,13 +10,6 @@ use zone::{
     address_in_range, input_in_range, more_in_range, range_known,
 };
 
-// What a road brings to a zone: a command, or the refusal that its bytes met with.
-#[derive(Clone, Copy)]
-pub enum Asked {
-    Sent(Command),
-    Failed(Refusal),
-}
-
 // What a zone decides: it refuses, or it tells figures, or it is altered.
 #[derive(Clone, Copy)]
 pub enum Verdict {
@@ -37,12 +30,7 @@ impl Verdict {
         match self {
             Verdict::Refuses(why) => Answer::Refused(why),
             Verdict::Tells(figures) => Answer::Told(figures),
-            Verdict::Writes(_) => Answer::Done,
-            Verdict::Reports(_) => Answer::Done,
-            Verdict::Adds(_, _) => Answer::Done,
-            Verdict::Removes => Answer::Done,
-            Verdict::Chooses(_) => Answer::Done,
-            Verdict::Rebooks(_) => Answer::Done,
+            _ => Answer::Done,
         }
     }
 
@@ -50,16 +38,7 @@ impl Verdict {
     pub fn alters(self) -> bool
         ensures { result ≡ steps.alters_by self }
     {
-        match self {
-            Verdict::Refuses(_) => false,
-            Verdict::Tells(_) => false,
-            Verdict::Writes(_) => true,
-            Verdict::Reports(_) => true,
-            Verdict::Adds(_, _) => true,
-            Verdict::Removes => true,
-            Verdict::Chooses(_) => true,
-            Verdict::Rebooks(_) => true,
-        }
+        !matches!(self, Verdict::Refuses(_) | Verdict::Tells(_))
     }
 
     // The zone afterwards.
@@ -67,8 +46,7 @@ impl Verdict {
         ensures { result ≡ steps.after_by self z }
     {
         match self {
-            Verdict::Refuses(_) => z,
-            Verdict::Tells(_) => z,
+            Verdict::Refuses(_) | Verdict::Tells(_) => z,
             Verdict::Writes(figures) => z.with_figures(figures),
             Verdict::Reports(status) => z.with_status(status),
             Verdict::Adds(address, range) => Zone::new(address, range),
@@ -99,7 +77,7 @@ pub fn added(z: Zone, address: u32, range: u32, held: bool) -> Verdict
 pub fn removed(z: Zone) -> Verdict
     ensures { steps.verdict_seen z result ≡ steps.judged z (remove_at z) }
 {
-    if !(z.kilograms == 0) {
+    if z.kilograms != 0 {
         return Verdict::Refuses(Refusal::StillBooked);
     }
     Verdict::Removes
@@ -113,8 +91,8 @@ pub fn reported(z: Zone, state: u32, actual: u32) -> Verdict
         return Verdict::Refuses(Refusal::OutOfRange);
     }
     Verdict::Reports(Status {
-        state: State::numbered(state),
-        actual: actual,
+        state: State::from(state),
+        actual,
     })
 }
 
@@ -125,10 +103,7 @@ pub fn chosen(z: Zone, source: Source, millivolts: u32) -> Verdict
     if !input_in_range(millivolts) {
         return Verdict::Refuses(Refusal::OutOfRange);
     }
-    Verdict::Chooses(Origin {
-        source: source,
-        millivolts: millivolts,
-    })
+    Verdict::Chooses(Origin { source, millivolts })
 }
 
 // The setpoint in use, of a zone of a sound record.
@@ -161,13 +136,13 @@ pub fn shipped(z: Zone, kilograms: u32) -> Verdict
     Verdict::Rebooks(z.kilograms - kilograms)
 }
 
-// What a road brings, at a zone.
-pub fn heard(z: Zone, asked: Asked) -> Verdict
+// What a road brings, at a zone: a command, or the refusal that its bytes met with.
+pub fn heard(z: Zone, asked: Result<Command, Refusal>) -> Verdict
     ensures { steps.verdict_seen z result ≡ steps.judged z (steps.ask_at z asked) }
 {
     match asked {
-        Asked::Sent(command) => commanded(z, command),
-        Asked::Failed(why) => Verdict::Refuses(why),
+        Ok(command) => commanded(z, command),
+        Err(why) => Verdict::Refuses(why),
     }
 }
 
@@ -187,9 +162,7 @@ fn written(z: Zone, figures: Figures) -> Verdict
     if !figures.in_range(z.range) {
         return Verdict::Refuses(Refusal::OutOfRange);
     }
-    let status = z.status;
-    let state = status.state;
-    if state.locks(figures.group()) {
+    if z.status.state.locks(figures.group()) {
         return Verdict::Refuses(Refusal::Locked);
     }
     Verdict::Writes(figures)

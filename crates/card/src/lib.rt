@@ -11,5 +11,5 @@ mod judgements;
 mod records;
 
 pub use answers::{Answer, Refusal};
-pub use judgements::{Asked, Verdict, added, heard, removed, reported};
-pub use records::{Found, OldEnd, OldEnds, Outcome, Record, Repaired};
+pub use judgements::{Verdict, added, heard, removed, reported};
+pub use records::{OldEnd, OldEnds, Outcome, Record, Repaired};

@@ -1,35 +1,24 @@
 // The record, its soundness, the look-up of an address, and the calls.
-ghost use Rattle.std.specs.Prelude.{◌≡◌, true, ◌<◌};
+ghost use Rattle.std.specs.Prelude.{◌≡◌, true, ◌<◌, []};
+ghost use Rattle.std.specs.List.{list_all};
 ghost use Rattle.zone.specs.Lists.{every, some};
 ghost use Rattle.zone.specs.Zones.{zone_otherwise_sound, zone_sound, mended, holds};
+ghost use Rattle.zone.specs.declared.zones.Zone.{Zone};
+ghost use Rattle.card.specs.declared.judgements.Verdict.{Verdict};
 ghost use Rattle.card.specs.Answers.{outcome_seen};
 ghost use Rattle.card.specs.Records.{empty_record, zone_at, differ, otherwise_sound, sound, find_of, no_zone};
-ghost use Rattle.card.specs.Calls.{add_of, remove_of, report_of, apply_of, choose_source_of, setpoint_in_use_of, book_of, ship_of, merge_of, all_mended, old_ends_from, told_as, repair_seen, repair_of};
-ghost use Rattle.card.specs.Inner.{range_at, reach_of, verdict_seen, stored, ask_of};
+ghost use Rattle.card.specs.Calls.{Judgement, at_zone, add_of, remove_of, report_of, apply_of, choose_source_of, setpoint_in_use_of, book_of, ship_of, merge_of, all_mended, old_ends_from, told_as, repair_seen, repair_of};
+ghost use Rattle.card.specs.Inner.{range_at, reach_of, verdict_seen, judged, stored, ask_of};
 
 use crate::answers::{Answer, Refusal};
 use crate::judgements::{
-    Asked, Verdict, added, booked, chosen, heard, in_use, removed, reported, shipped,
+    Verdict, added, booked, chosen, heard, in_use, removed, reported, shipped,
 };
 use zone::{Command, Source, Zone, more_in_range};
 
 #[derive(Clone, Copy)]
 pub struct Record {
     pub zones: [Zone; 16],
-}
-
-// Where an address is held.
-#[derive(Clone, Copy)]
-pub enum Found {
-    At(usize),
-    Nowhere,
-}
-
-// What stands at a zone number: a present zone of a sound record, or why there is none.
-#[derive(Clone, Copy)]
-pub enum Reached {
-    There(Zone),
-    Stopped(Refusal),
 }
 
 #[derive(Clone, Copy)]
@@ -39,14 +28,15 @@ pub struct Outcome {
 }
 
 // A zone whose window did not open before it closed, and the end that it had.
-#[derive(Clone, Copy)]
+#[derive(Clone, Copy, PartialEq, Eq)]
 pub struct OldEnd {
     pub zone: usize,
     pub end: u32,
 }
 
 // As many of the sixteen are told as `count` says, in rising order of the zones; the others are zeros.
-#[derive(Clone, Copy)]
+// A length beside its buffer, since `told_as` promises both and the library uses no heap.
+#[derive(Clone, Copy, PartialEq, Eq)]
 pub struct OldEnds {
     pub count: usize,
     pub ends: [OldEnd; 16],
@@ -56,6 +46,18 @@ pub struct OldEnds {
 pub struct Repaired {
     pub outcome: Outcome,
     pub told: OldEnds,
+}
+
+impl OldEnds {
+    // No zone is told.
+    fn none() -> OldEnds
+        ensures { result ≡ told_as [] }
+    {
+        OldEnds {
+            count: 0,
+            ends: [OldEnd { zone: 0, end: 0 }; 16],
+        }
+    }
 }
 
 impl Record {
@@ -76,17 +78,10 @@ impl Record {
         self.zones_sound() & self.addresses_differ()
     }
 
-    fn zones_sound(self) -> bool
-        ensures { result ≡ every zone_sound self.zones }
+    fn zones_sound(&self) -> bool
+        ensures { result ≡ list_all zone_sound self.now.zones }
     {
-        let mut ok = true;
-        let mut i: usize = 0;
-        while i < 16 {
-            let z = self.zones[i];
-            ok = ok & z.is_sound();
-            i += 1;
-        }
-        ok
+        self.zones.iter().all(|z| z.is_sound())
     }
 
     // Soundness without the rule for windows.
@@ -96,51 +91,37 @@ impl Record {
         self.zones_otherwise_sound() & self.addresses_differ()
     }
 
-    fn zones_otherwise_sound(self) -> bool
-        ensures { result ≡ every zone_otherwise_sound self.zones }
+    fn zones_otherwise_sound(&self) -> bool
+        ensures { result ≡ list_all zone_otherwise_sound self.now.zones }
     {
-        let mut ok = true;
-        let mut i: usize = 0;
-        while i < 16 {
-            let z = self.zones[i];
-            ok = ok & z.is_otherwise_sound();
-            i += 1;
-        }
-        ok
+        self.zones.iter().all(|z| z.is_otherwise_sound())
     }
 
-    fn addresses_differ(self) -> bool
-        ensures { result ≡ differ self.zones }
+    // No present zone's address is held by a later one.
+    fn addresses_differ(&self) -> bool
+        ensures { result ≡ differ self.now.zones }
     {
         let mut ok = true;
-        let mut i: usize = 0;
-        while i < 16 {
-            let z = self.zones[i];
-            let mut held = false;
-            let mut j = i + 1;
-            while j < 16 {
-                let later = self.zones[j];
-                held = held | later.holds(z.address);
-                j += 1;
-            }
-            ok = ok & !(z.present & held);
-            i += 1;
+        let mut zones = self.zones.as_slice();
+        while let Some((z, later)) = zones.split_first() {
+            ok = ok & !(z.present & later.iter().any(|other| other.holds(z.address)));
+            zones = later;
         }
         ok
     }
 
     // The first zone, from 0 upward, that holds the address.
-    pub fn find(self, address: u32) -> Found
+    pub fn find(self, address: u32) -> Option<usize>
         ensures { result ≡ find_of self address }
     {
+        // The loop that document 01 names for this search: it breaks with the zone's number, or with none.
         let mut i: usize = 0;
         loop {
             if 16 <= i {
-                break Found::Nowhere;
+                break None;
             }
-            let z = self.zones[i];
-            if z.holds(address) {
-                break Found::At(i);
+            if self.zones[i].holds(address) {
+                break Some(i);
             }
             i += 1;
         }
@@ -150,45 +131,34 @@ impl Record {
     fn is_held(self, address: u32) -> bool
         ensures { result ≡ some (holds address) self.zones }
     {
-        match self.find(address) {
-            Found::At(_) => true,
-            Found::Nowhere => false,
-        }
+        self.find(address).is_some()
     }
 
     // The temperature range that the record has for a zone number; 0 above 15.
     pub fn range_at(self, zone: usize) -> u32
         ensures { result ≡ range_at self zone }
     {
-        if 16 <= zone {
-            return 0;
-        }
-        let z = self.zones[zone];
-        z.range
+        self.zones.get(zone).map_or(0, |z| z.range)
     }
 
     // The number names no zone, or an absent one.
     fn is_missing(self, zone: usize) -> bool
         ensures { result ≡ no_zone self zone }
     {
-        if 16 <= zone {
-            return true;
-        }
-        let z = self.zones[zone];
-        !z.present
+        self.zones.get(zone).is_none_or(|z| !z.present)
     }
 
-    // The zone that a call is to work on.
-    fn reach(self, zone: usize) -> Reached
+    // The zone that a call is to work on: a present one of a sound record.
+    fn reach(self, zone: usize) -> Result<Zone, Refusal>
         ensures { result ≡ reach_of self zone }
     {
         if !self.is_sound() {
-            return Reached::Stopped(Refusal::NotSound);
+            return Err(Refusal::NotSound);
         }
         if self.is_missing(zone) {
-            return Reached::Stopped(Refusal::NoZone);
+            return Err(Refusal::NoZone);
         }
-        Reached::There(self.zones[zone])
+        Ok(self.zones[zone])
     }
 
     // A refusal hands back the record it was given.
@@ -206,12 +176,21 @@ impl Record {
         requires { zone < 16 }
         ensures { outcome_seen result ≡ stored self zone (verdict_seen (zone_at self zone) verdict) }
     {
-        let z = self.zones[zone];
-        let after = verdict.after(z);
-        self.zones[zone] = after;
+        self.zones[zone] = verdict.after(self.zones[zone]);
         Outcome {
             answer: verdict.answer(),
             after: self,
+        }
+    }
+
+    // A call at a zone: where the zone is there, what it decides by that rule is stored.
+    fn at<F: FnOnce(Zone) -> Verdict>(self, zone: usize, rule: F) -> Outcome
+        requires { (z : Zone) → zone_sound z ≡ true → F.pre rule z }
+        ensures { (j : Judgement) → ((v : Verdict) → F.post rule (zone_at self zone) v → verdict_seen (zone_at self zone) v ≡ judged (zone_at self zone) j) → outcome_seen result ≡ at_zone self zone j }
+    {
+        match self.reach(zone) {
+            Err(why) => self.refused(why),
+            Ok(z) => self.changed(zone, rule(z)),
         }
     }
 
@@ -222,11 +201,10 @@ impl Record {
         if !self.is_sound() {
             return self.refused(Refusal::NotSound);
         }
-        if 16 <= zone {
+        let Some(z) = self.zones.get(zone) else {
             return self.refused(Refusal::NoZone);
-        }
-        let z = self.zones[zone];
-        self.changed(zone, added(z, address, range, self.is_held(address)))
+        };
+        self.changed(zone, added(*z, address, range, self.is_held(address)))
     }
 
     // The zone, on which no kilograms may stand, is emptied; its number and its address may be used
@@ -234,38 +212,29 @@ impl Record {
     pub fn remove(self, zone: usize) -> Outcome
         ensures { outcome_seen result ≡ remove_of self zone }
     {
-        match self.reach(zone) {
-            Reached::Stopped(why) => self.refused(why),
-            Reached::There(z) => self.changed(zone, removed(z)),
-        }
+        self.at(zone, |z| removed(z))
     }
 
     // The zone's state, by its number, and its actual value.
     pub fn report(self, zone: usize, state: u32, actual: u32) -> Outcome
         ensures { outcome_seen result ≡ report_of self zone state actual }
     {
-        match self.reach(zone) {
-            Reached::Stopped(why) => self.refused(why),
-            Reached::There(z) => self.changed(zone, reported(z, state, actual)),
-        }
+        self.at(zone, |z| reported(z, state, actual))
     }
 
     // A command that came by either road. A read answers with its figures.
     pub fn apply(self, zone: usize, command: Command) -> Outcome
         ensures { outcome_seen result ≡ apply_of self zone command }
     {
-        self.ask(zone, Asked::Sent(command))
+        self.ask(zone, Ok(command))
     }
 
     // What a road brings to a zone: for a command the answer of `apply`, and else the refusal, unless
     // the record or the zone is refused first.
-    pub fn ask(self, zone: usize, asked: Asked) -> Outcome
+    pub fn ask(self, zone: usize, asked: Result<Command, Refusal>) -> Outcome
         ensures { outcome_seen result ≡ ask_of self zone asked }
     {
-        match self.reach(zone) {
-            Reached::Stopped(why) => self.refused(why),
-            Reached::There(z) => self.changed(zone, heard(z, asked)),
-        }
+        self.at(zone, |z| heard(z, asked))
     }
 
     // Sets the zone's source, interface or voltage, and the voltage at its input. Every state permits
@@ -273,40 +242,28 @@ impl Record {
     pub fn choose_source(self, zone: usize, source: Source, millivolts: u32) -> Outcome
         ensures { outcome_seen result ≡ choose_source_of self zone source millivolts }
     {
-        match self.reach(zone) {
-            Reached::Stopped(why) => self.refused(why),
-            Reached::There(z) => self.changed(zone, chosen(z, source, millivolts)),
-        }
+        self.at(zone, |z| chosen(z, source, millivolts))
     }
 
     // Answers with the zone's setpoint in use: the commanded one, or that of the voltage at its input.
     pub fn setpoint_in_use(self, zone: usize) -> Outcome
         ensures { outcome_seen result ≡ setpoint_in_use_of self zone }
     {
-        match self.reach(zone) {
-            Reached::Stopped(why) => self.refused(why),
-            Reached::There(z) => self.changed(zone, in_use(z)),
-        }
+        self.at(zone, |z| in_use(z))
     }
 
     // An order reserves so many kilograms on the zone, on top of those that it holds.
     pub fn book(self, zone: usize, kilograms: u32) -> Outcome
         ensures { outcome_seen result ≡ book_of self zone kilograms }
     {
-        match self.reach(zone) {
-            Reached::Stopped(why) => self.refused(why),
-            Reached::There(z) => self.changed(zone, booked(z, kilograms)),
-        }
+        self.at(zone, |z| booked(z, kilograms))
     }
 
     // So many of the kilograms that the zone holds are shipped.
     pub fn ship(self, zone: usize, kilograms: u32) -> Outcome
         ensures { outcome_seen result ≡ ship_of self zone kilograms }
     {
-        match self.reach(zone) {
-            Reached::Stopped(why) => self.refused(why),
-            Reached::There(z) => self.changed(zone, shipped(z, kilograms)),
-        }
+        self.at(zone, |z| shipped(z, kilograms))
     }
 
     // Zone a is folded into zone b: all its kilograms move to b, and it is removed.
@@ -328,32 +285,24 @@ impl Record {
             return self.refused(Refusal::BadAmount);
         }
         let summed = self.changed(b, Verdict::Rebooks(into.kilograms + from.kilograms));
-        let moved = summed.after;
-        moved.changed(a, Verdict::Removes)
+        summed.after.changed(a, Verdict::Removes)
     }
 
     // The zones whose window does not open before it closes, with its end.
     fn old_ends(self) -> OldEnds
         ensures { result ≡ told_as (old_ends_from 0 self.zones) }
     {
-        let mut ends = [OldEnd { zone: 0, end: 0 }; 16];
-        let mut count: usize = 0;
-        let mut i: usize = 0;
-        while i < 16 {
-            let z = self.zones[i];
+        let mut told = OldEnds::none();
+        for (zone, z) in self.zones.iter().enumerate() {
             if !z.window_opens() {
-                ends[count] = OldEnd {
-                    zone: i,
+                told.ends[told.count] = OldEnd {
+                    zone,
                     end: z.window_end(),
                 };
-                count += 1;
+                told.count += 1;
             }
-            i += 1;
         }
-        OldEnds {
-            count: count,
-            ends: ends,
-        }
+        told
     }
 
     // Each zone, mended if its window does not open before it closes.
@@ -362,11 +311,8 @@ impl Record {
         ensures { result ≡ all_mended self }
     {
         let mut after = self;
-        let mut i: usize = 0;
-        while i < 16 {
-            let z = self.zones[i];
+        for (i, z) in self.zones.iter().enumerate() {
             after.zones[i] = z.mended();
-            i += 1;
         }
         after
     }
@@ -379,10 +325,7 @@ impl Record {
         if !self.is_otherwise_sound() {
             return Repaired {
                 outcome: self.refused(Refusal::NotSound),
-                told: OldEnds {
-                    count: 0,
-                    ends: [OldEnd { zone: 0, end: 0 }; 16],
-                },
+                told: OldEnds::none(),
             };
         }
         Repaired {

@@ -2,7 +2,8 @@
 use Rattle.std.specs.Prelude.{ℕ, ◌≤◌, ◌≡◌, false, List, ◌++◌, take}
 use Rattle.card.specs.declared.records.Record.{Record}
 use Rattle.journal.specs.Blocks.{fed, closed}
-use Rattle.cardlog.specs.declared.Between.{Between}
+use Rattle.output.specs.Output.{going}
+use Rattle.cardlog.specs.declared.between.Between.{Between}
 
 -- what a text leaves: the record, what is held of the line under way at the front of the buffer, and at the front of `out` the output, just as many bytes as were handed to write
 pub record Leaves (r : Record) (text buffer out : List ℕ) (b : Between) : Type 0 where
@@ -16,6 +17,6 @@ pub data Turned (r : Record) (held buffer out : List ℕ) (b : Between) : Type 0
   -- some block was read: it stands behind what was held
   went_on : (block : List ℕ) → Leaves r (held ++ block) buffer out b → Turned r held buffer out b
   -- the input has ended: the line under way, if there is one, gets its line feed
-  ended : Leaves r (closed held) buffer out b → b.more ≡ false → Turned r held buffer out b
+  ended : Leaves r (closed held) buffer out b → going b.next ≡ false → Turned r held buffer out b
   -- the read failed: nothing is answered
-  failed : b.after ≡ r → b.handed ≡ 0 → b.more ≡ false → Turned r held buffer out b
+  failed : b.after ≡ r → b.handed ≡ 0 → going b.next ≡ false → Turned r held buffer out b

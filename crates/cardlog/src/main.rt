@@ -12,98 +12,55 @@
 #![tactic(auto)]
 
 ghost use Rattle.std.specs.Prelude.{◌≡◌, false, ◌&&◌, ◌≤◌, length, take};
+ghost use Rattle.output.specs.Output.{going};
 ghost use Rattle.cardlog.specs.Turns.{Leaves, Turned};
 
+mod between;
+
+use between::Between;
 use card::Record;
-use std::io;
-use std::io::{ErrorKind, Read};
+use output::{Ending, ended, turns, write};
+use std::io::Read;
+use std::ops::ControlFlow;
 use std::process::ExitCode;
 
-// What is kept between two blocks, how many bytes of output were handed to write, whether to go on, and whether somebody
-// reads the output.
-#[derive(Clone, Copy)]
-struct Between {
-    after: Record,
-    held: usize,
-    handed: usize,
-    more: bool,
-    heard: bool,
-}
+// How much of the input is worked on at once.
+const BUFFER: usize = 16384;
 
-// How many bytes were handed to write, whether all of them went out, and whether somebody reads them.
-#[derive(Clone, Copy)]
-struct Written {
-    handed: usize,
-    whole: bool,
-    heard: bool,
-}
-
-// The output: the front of `out`, as far as it is filled.
-fn output(out: &[u8], filled: usize) -> &[u8]
-    requires { filled ≤ length out.now }
-    ensures { result.now ≡ take filled out.now }
-{
-    &out[0..filled]
-}
-
-// Tells of a write that failed, but where nobody reads, and whether somebody does.
-fn tell(rt: &impl Eprint, failure: io::Error) -> bool {
-    if failure.kind() == ErrorKind::BrokenPipe {
-        return false;
-    }
-    let _ = rt.eprintln("cardlog: the output cannot be written");
-    true
-}
-
-// Hands the bytes to write, and tells how many they are.
-fn write(rt: &(impl Print + Eprint), bytes: &[u8]) -> Written
-    ensures { result.handed ≡ length bytes.now }
-{
-    let handed = bytes.len();
-    match rt.write_all(bytes) {
-        Ok(()) => Written {
-            handed: handed,
-            whole: true,
-            heard: true,
-        },
-        Err(failure) => Written {
-            handed: handed,
-            whole: false,
-            heard: tell(rt, failure),
-        },
-    }
-}
+// The output has room for 8 bytes for each byte of the buffer, and 40 more: a line yields at most 8 bytes for each
+// of its own and its line feed, and 40 are asked for before one is written.
+const OUT: usize = 8 * BUFFER + 40;
 
 // The program goes on where more may come and the output was written.
-fn goes_on(more: bool, written: bool) -> bool
-    ensures { result ≡ (more && written) }
+fn goes_on(more: bool, written: ControlFlow<Ending>) -> ControlFlow<Ending>
+    ensures { going result ≡ (more && going written) }
 {
-    more & written
+    if more & written.is_continue() {
+        return ControlFlow::Continue(());
+    }
+    ControlFlow::Break(ended(written))
 }
 
 // Works on what the buffer holds up to `end`, and writes the output. If that fails, the program ends.
 fn answer(
     rt: &(impl Print + Eprint),
     r: Record,
-    buffer: &mut [u8],
+    buffer: &mut [u8; BUFFER],
     end: usize,
-    out: &mut [u8],
+    out: &mut [u8; OUT],
     more: bool,
 ) -> Between
-    requires { (end ≤ 16384) × (length buffer.old ≡ 16384) × (length out.old ≡ 131112) }
+    requires { end ≤ BUFFER }
     ensures leaves { Leaves r (take end buffer.old) buffer.new out.new result }
-    ensures more_value { more ≡ false → result.more ≡ false }
+    ensures more_value { more ≡ false → going result.next ≡ false }
 {
     let kept = journal::feed(r, buffer, end, out);
-    let filled = kept.filled;
-    let after = kept.after;
-    let written = write(rt, output(out, filled));
+    let written = write(rt, "cardlog", &out[..kept.filled]);
     Between {
-        after: after,
+        after: kept.after,
         held: kept.held,
         handed: written.handed,
-        more: goes_on(more, written.whole),
-        heard: written.heard,
+        next: goes_on(more, written.next),
     }
 }
 
@@ -112,12 +69,10 @@ fn turn(
     rt: &(impl Print + Eprint),
     input: &mut impl Read,
     before: Between,
-    buffer: &mut [u8],
-    out: &mut [u8],
+    buffer: &mut [u8; BUFFER],
+    out: &mut [u8; OUT],
 ) -> Between
-    requires { (before.held ≤ 601) × (length buffer.old ≡ 16384) × (length out.old ≡ 131112) }
-    ensures turned { Turned before.after (take before.held buffer.old) buffer.new out.new result }
-    ensures held_bound { result.held ≤ 601 }
+    ensures { Turned before.after (take before.held buffer.old) buffer.new out.new result }
 {
     let r = before.after;
     let held = before.held;
@@ -125,10 +80,9 @@ fn turn(
         let _ = rt.eprintln("cardlog: the input cannot be read");
         return Between {
             after: r,
-            held: held,
+            held,
             handed: 0,
-            more: false,
-            heard: true,
+            next: ControlFlow::Break(Ending::Heard),
         };
     };
     if count == 0 {
@@ -138,44 +92,24 @@ fn turn(
     answer(rt, r, buffer, held + count, out, true)
 }
 
-// The status to end with: 0, or where nobody reads, what a shell tells of a program that a closed pipe has ended.
-fn status(heard: bool) -> ExitCode {
-    if heard {
-        return ExitCode::SUCCESS;
-    }
-    ExitCode::from(141)
-}
-
-// Block after block, to the end of the input. A proved loop ends, and nothing says that the input does: the turns
-// are counted up to a number that no input reaches.
-fn run(
-    rt: &(impl Print + Eprint),
-    input: &mut impl Read,
-    buffer: &mut [u8],
-    out: &mut [u8],
-) -> ExitCode
-    requires { (length buffer.old ≡ 16384) × (length out.old ≡ 131112) }
-{
-    let mut state = Between {
+// Block after block, to the end of the input.
+fn run(rt: &(impl Print + Eprint), input: &mut impl Read) -> ExitCode {
+    let mut buffer = [0u8; BUFFER];
+    let mut out = [0u8; OUT];
+    let start = Between {
         after: Record::empty(),
         held: 0,
         handed: 0,
-        more: true,
-        heard: true,
+        next: ControlFlow::Continue(()),
     };
-    for _ in 0..u64::MAX {
-        if !state.more {
-            break;
-        }
-        state = turn(rt, input, state, buffer, out);
-    }
-    status(state.heard)
+    let last = turns(
+        start,
+        |state| state.next.is_continue(),
+        |state| turn(rt, input, state, &mut buffer, &mut out),
+    );
+    ExitCode::from(ended(last.next))
 }
 
-// The output has room for 8 bytes for each byte of the buffer, and 40 more: a line yields at most 8 bytes for each
-// of its own and its line feed, and 40 are asked for before one is written.
 fn main(rt: HostRuntime) -> ExitCode {
-    let mut buffer = [0u8; 16384];
-    let mut out = [0u8; 131112];
-    run(&rt, &mut rt.stdin(), &mut buffer, &mut out)
+    run(&rt, &mut rt.stdin())
 }

@@ -3,7 +3,7 @@ use Rattle.std.specs.Prelude.{ℕ, ◌≡◌, List, [], ◌∷◌, ◌++◌, tak
 use Rattle.card.specs.declared.records.Record.{Record}
 use Rattle.texts.specs.Texts.{line_feed}
 use Rattle.saying.specs.Saying.{say_of}
-use Rattle.cardsay.specs.declared.Between.{Between}
+use Rattle.cardsay.specs.declared.between.Between.{Between}
 
 -- a line was answered: what is said of it stands at the front of `out`, just as many bytes as were handed to write, and nothing is held
 pub record Said (r : Record) (line out : List ℕ) (b : Between) : Type 0 where

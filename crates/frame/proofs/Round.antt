@@ -1,4 +1,5 @@
 -- A composed frame, given back, is that command to that address; and what is read as a command is exactly its frame. Assumes nothing.
+use Rattle.std.specs.Prelude.{None, Ok, Option, Some}
 use Prim.Native.Nat.{ℕ, suc, ◌+◌, ◌^◌, ◌≤◌, ◌<◌}
 use mathlib.Core.Path.{◌≡◌, refl, sym, ap, ◌∙◌}
 use mathlib.Core.Bool.{Bool, true, false, ◌&&◌}
@@ -15,10 +16,6 @@ use Rattle.zone.specs.declared.figures.Command.TheVariants.{Read, Write}
 use Rattle.zone.specs.Table.{Kind, bytes, index, every_group}
 use Rattle.zone.specs.Figures.{group_of}
 use Rattle.zone.proofs.Tests.{both}
-use Rattle.wire.specs.declared.Figure.TheVariants.{Value}
-use Rattle.wire.specs.declared.Named.{Named}
-use Rattle.wire.specs.declared.Named.TheVariants.{Is, NoGroup}
-use Rattle.wire.specs.declared.Parsed.TheVariants.{Known}
 use Rattle.wire.specs.Road.{carries_command}
 use Rattle.wire.proofs.Choices.{by_cond, unknown_never, nothing_never}
 use Rattle.wire.proofs.Layouts.{Lawful, Stands, write_reads, command_only}
@@ -36,7 +33,7 @@ frame_lengths = refl
 
 -- ---- a single figure, there and back
 
-back : (k : Kind) (n : ℕ) (l : List ℕ) (at : ℕ) → Bytes l → at + bytes k ≤ length l → Value (number_at (bytes k) l at) ≡ Value n
+back : (k : Kind) (n : ℕ) (l : List ℕ) (at : ℕ) → Bytes l → at + bytes k ≤ length l → Some (number_at (bytes k) l at) ≡ Some n
     → (drop at l ≡ bytes_of (bytes k) n ++ drop (at + bytes k) l) × (n < 256 ^ bytes k)
 back k n l at good h e = let z : number_at (bytes k) l at ≡ n = cc in rw (← z) (number_only (bytes k) at l good h)
 
@@ -47,7 +44,7 @@ lawful = record {
   at_end = tt;
   at_next = λ k n rest. tt;
   size = λ k n. bytes_length (bytes k) n;
-  there = λ k n pre rest h e. ap Value (number_reads (bytes k) n pre rest h);
+  there = λ k n pre rest h e. ap Some (number_reads (bytes k) n pre rest h);
   back = back;
   marks = refl;
   forms = refl;
@@ -55,7 +52,7 @@ lawful = record {
 
 -- ---- there
 
-body_reads : (x : ℕ) (c : Command) → carries_command frame_road c ≡ true → body_read (body_of x c) ≡ Known c
+body_reads : (x : ℕ) (c : Command) → carries_command frame_road c ≡ true → body_read (body_of x c) ≡ Ok c
 unfolding body_read carries_command
 body_reads x (Read g) h = rw (index_again g)
 body_reads x (Write f) h = rw (index_again (group_of f)) (write_reads frame_road lawful f (x ∷ 0x69 ∷ index (group_of f) ∷ []) refl h)
@@ -107,7 +104,7 @@ frame_reads x c h = framed_reads (body_of x c) (three x c) ∙ rw (address_is x 
 
 -- ---- and back
 
-indexed_only : (gs : List Group) (x : ℕ) (g : Group) → first_indexed gs x ≡ Is g → x ≡ index g
+indexed_only : (gs : List Group) (x : ℕ) (g : Group) → first_indexed gs x ≡ Some g → x ≡ index g
 indexed_only [] x g h = nothing_never h
 indexed_only (y ∷ gs) x g h =
     by_cond (eqb x (index y)) h
@@ -133,13 +130,13 @@ stands_body b g (Read h) long i s =
     record { body_is = front b long ∙ rw (s.0, i, s.1, bare); carried = refl }
 stands_body b g (Write f) long i s = record { body_is = front b long ∙ rw (s.0, i, s.2, ← s.1); carried = s.3 }
 
-indexed_body : (n : Named) (b : List ℕ) (c : Command) → Bytes b → 3 ≤ length b → group_indexed (get_or b 2 0) ≡ n → indexed_read n b ≡ Known c → Body b c
+indexed_body : (n : Option Group) (b : List ℕ) (c : Command) → Bytes b → 3 ≤ length b → group_indexed (get_or b 2 0) ≡ n → indexed_read n b ≡ Ok c → Body b c
 unfolding group_indexed lawful
-indexed_body NoGroup b c good long e h = unknown_never h
-indexed_body (Is g) b c good long e h =
+indexed_body None b c good long e h = unknown_never h
+indexed_body (Some g) b c good long e h =
     stands_body b g c long (indexed_only every_group (get_or b 2 0) g e) (command_only frame_road lawful (get_or b 1 0) g b c good h)
 
-body_only : (b : List ℕ) (c : Command) → Bytes b → 3 ≤ length b → body_read b ≡ Known c → Body b c
+body_only : (b : List ℕ) (c : Command) → Bytes b → 3 ≤ length b → body_read b ≡ Ok c → Body b c
 unfolding body_read
 body_only b c good long h = indexed_body (group_indexed (get_or b 2 0)) b c good long refl h
 
@@ -201,7 +198,7 @@ frame_only f x c good h =
     by_cond (checksum_right f) r
     (λ k q.
     let whole_is = framed_only f s k in
-    let known : body_read (body_in f) ≡ Known c = cc in
+    let known : body_read (body_in f) ≡ Ok c = cc in
     let address : address_in f ≡ x = cc in
     let body = body_only (body_in f) c (body_bytes f good) whole_is.2 known in
     record {

@@ -1,20 +1,16 @@
 -- The frame of a command, and the command of a frame.
-use Rattle.std.specs.Prelude.{ℕ, zero, suc, ◌+◌, ◌*◌, ◌/◌, ◌%◌, ◌^◌, Bool, cond, ◌&&◌, List, [], ◌∷◌, ◌++◌, length, get_or, take, drop, leb, eqb}
+use Rattle.std.specs.Prelude.{ℕ, zero, suc, ◌+◌, ◌*◌, ◌/◌, ◌%◌, ◌^◌, Bool, cond, ◌&&◌, List, [], ◌∷◌, ◌++◌, length, get_or, take, drop, leb, eqb, Err, None, Option, Some}
 use Rattle.zone.specs.declared.figures.Group.{Group}
 use Rattle.zone.specs.declared.figures.Figures.{Figures}
 use Rattle.zone.specs.declared.figures.Command.{Command}
 use Rattle.zone.specs.declared.figures.Command.TheVariants.{Read, Write}
 use Rattle.zone.specs.Table.{bytes, index, every_group}
 use Rattle.zone.specs.Figures.{group_of}
-use Rattle.wire.specs.declared.Figure.TheVariants.{Value}
-use Rattle.wire.specs.declared.Named.{Named}
-use Rattle.wire.specs.declared.Named.TheVariants.{Is, NoGroup}
-use Rattle.wire.specs.declared.Parsed.{Parsed}
-use Rattle.wire.specs.declared.Parsed.TheVariants.{Unknown}
-use Rattle.wire.specs.Road.{Road, figure_bytes, command_read}
+use Rattle.wire.specs.Road.{Road, figure_bytes, command_read, Parsed}
 use Rattle.frame.specs.declared.reading.Framed.{Framed}
 use Rattle.frame.specs.declared.reading.Framed.TheVariants.{NoFrame, BadSum, Request}
 use Rattle.frame.specs.Sum.{checksum_of}
+use Rattle.wire.specs.declared.Misread.TheVariants.{Unknown}
 
 -- `width` bytes of n, "low byte first"
 abbrev pub bytes_of : ℕ → ℕ → List ℕ
@@ -42,7 +38,7 @@ frame_road = record {
   width = λ kind. bytes kind;
   bound = λ kind. 256 ^ bytes kind;
   bytes_for = λ kind n. bytes_of (bytes kind) n;
-  found_at = λ kind l at. Value (number_at (bytes kind) l at);
+  found_at = λ kind l at. Some (number_at (bytes kind) l at);
 }
 
 -- the bytes that L counts: "address, function, index and data"
@@ -88,17 +84,17 @@ address_in f = get_or f 4 0
 abbrev pub checksum_right : List ℕ → Bool
 checksum_right f = eqb (checksum_of (body_in f)) (get_or f (get_or f 1 0 + 4) 0)
 
-abbrev pub first_indexed : List Group → ℕ → Named
-first_indexed [] x = NoGroup
-first_indexed (group ∷ groups) x = cond (eqb x (index group)) (Is group) (first_indexed groups x)
+abbrev pub first_indexed : List Group → ℕ → Option Group
+first_indexed [] x = None
+first_indexed (group ∷ groups) x = cond (eqb x (index group)) (Some group) (first_indexed groups x)
 
 -- "The index byte alone names the group"
-unfoldable pub group_indexed : ℕ → Named
+unfoldable pub group_indexed : ℕ → Option Group
 group_indexed x = first_indexed every_group x
 
-abbrev pub indexed_read : Named → List ℕ → Parsed
-indexed_read NoGroup body = Unknown
-indexed_read (Is group) body = command_read frame_road (get_or body 1 0) group body
+abbrev pub indexed_read : Option Group → List ℕ → Parsed
+indexed_read None body = Err Unknown
+indexed_read (Some group) body = command_read frame_road (get_or body 1 0) group body
 
 -- what the L bytes are found to be
 unfoldable pub body_read : List ℕ → Parsed

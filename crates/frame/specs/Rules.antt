@@ -1,8 +1,7 @@
 -- Rules of the frame road that are proved of its definitions. Above each stands where.
-use Rattle.std.specs.Prelude.{ℕ, ◌<◌, ◌≡◌, true, List, [], ◌∷◌, map, get_or}
+use Rattle.std.specs.Prelude.{ℕ, ◌<◌, ◌≡◌, true, List, [], ◌∷◌, map, get_or, Ok}
 use Rattle.zone.specs.declared.figures.Command.{Command}
 use Rattle.zone.specs.Table.{every_form}
-use Rattle.wire.specs.declared.Parsed.TheVariants.{Known}
 use Rattle.wire.specs.Road.{carries_command, length_of}
 use Rattle.frame.specs.declared.reading.Framed.TheVariants.{Request}
 use Rattle.frame.specs.Frame.{frame_road, frame_of, frame_read}
@@ -13,7 +12,7 @@ FrameLengths = map (length_of frame_road) every_form ≡ 8 ∷ 10 ∷ 5 ∷ 6 �
 
 -- the frame of a command that the road carries is read as that command to that address. `frame_reads`, in proofs/Round.antt
 abbrev pub FrameReads : Type 0
-FrameReads = (address : ℕ) (command : Command) → carries_command frame_road command ≡ true → frame_read (frame_of address command) ≡ Request address (Known command)
+FrameReads = (address : ℕ) (command : Command) → carries_command frame_road command ≡ true → frame_read (frame_of address command) ≡ Request address (Ok command)
 
 -- a list of bytes
 abbrev pub Bytes : List ℕ → Type 0
@@ -25,4 +24,4 @@ pub record ItsFrame (bytes : List ℕ) (address : ℕ) (command : Command) : Typ
   pub carried : carries_command frame_road command ≡ true
 
 abbrev pub OnlyItsFrame : Type 0
-OnlyItsFrame = (bytes : List ℕ) (address : ℕ) (command : Command) → Bytes bytes → frame_read bytes ≡ Request address (Known command) → ItsFrame bytes address command
+OnlyItsFrame = (bytes : List ℕ) (address : ℕ) (command : Command) → Bytes bytes → frame_read bytes ≡ Request address (Ok command) → ItsFrame bytes address command

@@ -1,11 +1,11 @@
 // A frame read as a command to an address.
-ghost use Rattle.std.specs.Prelude.{◌≡◌, ◌+◌, ◌≤◌, ◌<◌, length};
+ghost use Rattle.std.specs.Prelude.{cond, Ok, Err, ◌≡◌, ◌+◌, ◌≤◌, ◌<◌, length, eqb};
 ghost use Rattle.zone.specs.Table.{forms_of};
 ghost use Rattle.wire.specs.Road.{write_read, command_read};
 ghost use Rattle.frame.specs.Frame.{frame_road, number_at, writing, body_read, frame_read};
 
-use crate::sums::{checksum, wide};
-use wire::Parsed;
+use crate::sums::checksum;
+use wire::{Misread, Parsed};
 use zone::{
     Command, DeadlineFigures, Figures, Group, LimitFigures, ReferenceFigures, SetpointFigures,
     WindowFigures,
@@ -23,78 +23,78 @@ fn one(body: &[u8], at: usize) -> u32
     requires { at < length body.now }
     ensures { result ≡ number_at 1 body.now at }
 {
-    wide(body[at])
+    u32::from(body[at])
 }
 
 fn two(body: &[u8], at: usize) -> u32
     requires { at + 1 < length body.now }
     ensures { result ≡ number_at 2 body.now at }
 {
-    let low = wide(body[at]);
-    let high = wide(body[at + 1]);
-    low + 256 * high
+    one(body, at) + 256 * one(body, at + 1)
 }
 
-// The body of a write of each group: its length says which of the group's forms it is.
+// The one figure of a group that has no more.
+fn single(body: &[u8]) -> Result<u32, Misread>
+    ensures { result ≡ cond (eqb (length body.now) 5) (Ok (number_at 2 body.now 3)) (Err Misread.Syntax) }
+{
+    if body.len() != 5 {
+        return Err(Misread::Syntax);
+    }
+    Ok(two(body, 3))
+}
+
+// The figures of a write of each group: the body's length says which of the group's forms it is.
+#[tactic(auto, unfolding(wire::specs::Road::form_read, wire::specs::Road::write_read))]
 fn ahue(body: &[u8]) -> Parsed
     ensures { result ≡ write_read frame_road (forms_of Group.Ahue) body.now }
 {
-    if body.len() == 8 {
-        let f = DeadlineFigures {
+    let figures = match body.len() {
+        8 => Figures::AhueDeadline(DeadlineFigures {
             flag: one(body, 3),
             lower: one(body, 4),
             upper: one(body, 5),
             time: two(body, 6),
-        };
-        return Parsed::Known(Command::Write(Figures::AhueDeadline(f)));
-    }
-    if body.len() == 10 {
-        let f = WindowFigures {
+        }),
+        10 => Figures::AhueWindow(WindowFigures {
             flag: one(body, 3),
             lower: one(body, 4),
             upper: one(body, 5),
             begin: two(body, 6),
             end: two(body, 8),
-        };
-        return Parsed::Known(Command::Write(Figures::AhueWindow(f)));
-    }
-    Parsed::Syntax
+        }),
+        _ => return Err(Misread::Syntax),
+    };
+    Ok(Command::Write(figures))
 }
 
+#[tactic(auto, unfolding(wire::specs::Road::form_read, wire::specs::Road::write_read))]
 fn hzbg(body: &[u8]) -> Parsed
     ensures { result ≡ write_read frame_road (forms_of Group.Hzbg) body.now }
 {
-    if body.len() == 5 {
-        let f = LimitFigures { time: two(body, 3) };
-        return Parsed::Known(Command::Write(Figures::HzbgLimit(f)));
-    }
-    Parsed::Syntax
+    let time = single(body)?;
+    Ok(Command::Write(Figures::HzbgLimit(LimitFigures { time })))
 }
 
+#[tactic(auto, unfolding(wire::specs::Road::form_read, wire::specs::Road::write_read))]
 fn rrue(body: &[u8]) -> Parsed
     ensures { result ≡ write_read frame_road (forms_of Group.Rrue) body.now }
 {
-    if body.len() == 6 {
-        let f = ReferenceFigures {
-            flag: one(body, 3),
-            lower: one(body, 4),
-            upper: one(body, 5),
-        };
-        return Parsed::Known(Command::Write(Figures::RrueReference(f)));
+    if body.len() != 6 {
+        return Err(Misread::Syntax);
     }
-    Parsed::Syntax
+    Ok(Command::Write(Figures::RrueReference(ReferenceFigures {
+        flag: one(body, 3),
+        lower: one(body, 4),
+        upper: one(body, 5),
+    })))
 }
 
+#[tactic(auto, unfolding(wire::specs::Road::form_read, wire::specs::Road::write_read))]
 fn solw(body: &[u8]) -> Parsed
     ensures { result ≡ write_read frame_road (forms_of Group.Solw) body.now }
 {
-    if body.len() == 5 {
-        let f = SetpointFigures {
-            setpoint: two(body, 3),
-        };
-        return Parsed::Known(Command::Write(Figures::SolwSetpoint(f)));
-    }
-    Parsed::Syntax
+    let setpoint = single(body)?;
+    Ok(Command::Write(Figures::SolwSetpoint(SetpointFigures { setpoint })))
 }
 
 // What is no write: a read is three bytes long, and any function but 89 and 69 is unknown.
@@ -102,49 +102,31 @@ fn no_write(function: u8, group: Group, body: &[u8]) -> Parsed
     requires { function ≡ writing → ⊥ }
     ensures { result ≡ command_read frame_road function group body.now }
 {
-    if function != 0x89 {
-        return Parsed::Unknown;
+    match function {
+        0x89 if body.len() == 3 => Ok(Command::Read(group)),
+        0x89 => Err(Misread::Syntax),
+        _ => Err(Misread::Unknown),
     }
-    if body.len() == 3 {
-        return Parsed::Known(Command::Read(group));
-    }
-    Parsed::Syntax
 }
 
 // The command of the bytes that L counts. The index byte alone names the group: its arm chooses the lengths
 // and the places by which a write is read.
+#[tactic(auto, unfolding(crate::specs::Frame::group_indexed, crate::specs::Frame::body_read))]
 fn request(body: &[u8]) -> Parsed
     requires { 3 ≤ length body.now }
     ensures { result ≡ body_read body.now }
 {
     let function = body[1];
-    let index = body[2];
-    match index {
-        0x0B => {
-            if function == 0x69 {
-                return ahue(body);
-            }
-            no_write(function, Group::Ahue, body)
-        }
-        0x15 => {
-            if function == 0x69 {
-                return rrue(body);
-            }
-            no_write(function, Group::Rrue, body)
-        }
-        0x35 => {
-            if function == 0x69 {
-                return solw(body);
-            }
-            no_write(function, Group::Solw, body)
-        }
-        0x70 => {
-            if function == 0x69 {
-                return hzbg(body);
-            }
-            no_write(function, Group::Hzbg, body)
-        }
-        _ => Parsed::Unknown,
+    match body[2] {
+        0x0B if function == 0x69 => ahue(body),
+        0x0B => no_write(function, Group::Ahue, body),
+        0x15 if function == 0x69 => rrue(body),
+        0x15 => no_write(function, Group::Rrue, body),
+        0x35 if function == 0x69 => solw(body),
+        0x35 => no_write(function, Group::Solw, body),
+        0x70 if function == 0x69 => hzbg(body),
+        0x70 => no_write(function, Group::Hzbg, body),
+        _ => Err(Misread::Unknown),
     }
 }
 
@@ -164,7 +146,7 @@ pub fn read(frame: &[u8]) -> Framed
     if frame[1] != frame[2] {
         return Framed::NoFrame;
     }
-    let l = wide(frame[1]) as usize;
+    let l = usize::from(frame[1]);
     if frame.len() != l + 6 {
         return Framed::NoFrame;
     }

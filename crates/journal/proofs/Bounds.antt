@@ -1,5 +1,6 @@
 -- How much a line can yield: at most eight bytes for each of its own, its line feed counted. A line that is short is unreadable or adds, removes or reports, and
 -- has no reply; one that says something has four bytes at least, and a frame that is replied to has nine bytes, in two digits each. Assumes nothing.
+use Rattle.std.specs.Prelude.{None, Option, Some}
 use Prim.Native.Nat.{ℕ, ◌+◌, ◌-◌, ◌*◌, ◌≤◌}
 use mathlib.Core.Path.{◌≡◌, refl, sym, ◌∙◌}
 use mathlib.Core.Bool.{Bool, true, false, cond}
@@ -11,8 +12,6 @@ use borrow.Author.Tests.{leb-true}
 use Rattle.texts.specs.Texts.{index_of}
 use Rattle.zone.specs.declared.figures.Figures.{Figures}
 use Rattle.zone.proofs.Tests.{and_l}
-use Rattle.wire.specs.declared.Figure.{Figure}
-use Rattle.wire.specs.declared.Figure.TheVariants.{Value, Bad}
 use Rattle.wire.specs.Road.{Numbers, are, none, join}
 use Rattle.wire.specs.Room.{Filled}
 use Rattle.frame.specs.declared.reading.Framed.{Framed}
@@ -62,10 +61,10 @@ unfolding decimal_of
 text_to [] rest = omega arith
 text_to (d ∷ digits) rest = by_zone (decimal_of (d ∷ digits)) rest
   where
-    by_zone : (zone : Figure) (rest : List ℕ) → least (zoned_asks (zoned_by zone rest)) ≤ 2 + (length (d ∷ digits) + length rest)
-    by_zone Bad rest = omega arith
-    by_zone (Value n) [] = omega arith
-    by_zone (Value n) (x ∷ line) = omega arith
+    by_zone : (zone : Option ℕ) (rest : List ℕ) → least (zoned_asks (zoned_by zone rest)) ≤ 2 + (length (d ∷ digits) + length rest)
+    by_zone None rest = omega arith
+    by_zone (Some n) [] = omega arith
+    by_zone (Some n) (x ∷ line) = omega arith
 
 in_two : (l : List ℕ) → length (field l) + length (onward l) ≡ length l
 in_two l = sym (length-append (field l) (onward l)) ∙ rw (take-append-drop (index_of tab l) l)
@@ -82,11 +81,11 @@ digits_least [] = omega arith
 digits_least (d ∷ []) = omega arith
 digits_least (high ∷ low ∷ digits) = by_pair (byte_read (digit_read high) (digit_read low)) (bytes_read digits) (digits_least digits)
   where
-    by_pair : (byte : Figure) (more : Numbers) → least (bytes_ask more) ≤ 2 + length digits → least (bytes_ask (join byte more)) ≤ 2 + length (high ∷ low ∷ digits)
-    by_pair Bad none h = omega arith
-    by_pair Bad (are bytes) h = omega arith
-    by_pair (Value b) none h = omega arith
-    by_pair (Value b) (are bytes) h = omega arith
+    by_pair : (byte : Option ℕ) (more : Numbers) → least (bytes_ask more) ≤ 2 + length digits → least (bytes_ask (join byte more)) ≤ 2 + length (high ∷ low ∷ digits)
+    by_pair None none h = omega arith
+    by_pair None (are bytes) h = omega arith
+    by_pair (Some b) none h = omega arith
+    by_pair (Some b) (are bytes) h = omega arith
 
 frame_least : (l : List ℕ) → least (frame_asks l) ≤ 1 + length l
 unfolding frame_asks

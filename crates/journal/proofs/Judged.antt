@@ -1,4 +1,5 @@
 -- What is judged at the one zone that is looked at is what the call comes to on the record. Assumes nothing.
+use Rattle.std.specs.Prelude.{Err, None, Option, Some}
 use Prim.Native.Nat.{ℕ, ◌<◌}
 use mathlib.Core.Path.{◌≡◌, refl, sym, ap, ◌∙◌}
 use mathlib.Core.Bool.{Bool, true, false, not}
@@ -8,22 +9,16 @@ use lib.ListN.{length, drop}
 use lib.Seq.{take-append_seam}
 use lib.Dec.{leb}
 use borrow.Author.Tests.{leb-false, lt-ltb}
-use Rattle.zone.specs.declared.zones.Zone.{Zone}
 use Rattle.zone.specs.Zones.{new_zone}
 use Rattle.zone.proofs.Tests.{neither}
 use Rattle.card.specs.declared.answers.Refusal.TheVariants as refusal
-use Rattle.card.specs.declared.judgements.Asked.{Asked}
-use Rattle.card.specs.declared.judgements.Asked.TheVariants.{Failed}
 use Rattle.card.specs.declared.judgements.Verdict.{Verdict}
-use Rattle.card.specs.declared.judgements.Verdict.TheVariants.{Refuses}
 use Rattle.card.specs.declared.records.Record.{Record}
-use Rattle.card.specs.declared.records.Found.{Found}
-use Rattle.card.specs.declared.records.Found.TheVariants.{At, Nowhere}
 use Rattle.card.specs.Answers.{Result, number_of, values_of}
 use Rattle.card.specs.Refusals.{◌gives◌, settled}
 use Rattle.card.specs.Records.{zone_at, with_zone, held_in, sound, find_of, no_zone}
 use Rattle.card.specs.Calls.{add_at, add_of, remove_at, remove_of, report_at, report_of}
-use Rattle.card.specs.Inner.{answer_by, after_by, verdict_seen, judged, stored, ask_at, ask_of}
+use Rattle.card.specs.Inner.{answer_by, after_by, verdict_seen, judged, stored, ask_at, ask_of, Asked}
 use Rattle.card.proofs.Scans.{found_somewhere, found_nowhere}
 use Rattle.card.proofs.Finding.{found_there}
 use Rattle.card.proofs.Inner.{stored_settled}
@@ -35,7 +30,7 @@ use Rattle.roads.specs.Acknowledgements.{text_reply, frame_reply}
 use Rattle.roads.specs.Calls.{is_nowhere, zone_found, holder, result_at, text_result, frame_result, answer_text, answer_frame}
 use Rattle.roads.specs.Inner.{one_of_sixteen, unless, asked_by}
 use Rattle.roads.proofs.CallLaws.{asked_text, no_shape, bad_sum, right_sum, held_sum, held_right}
-use Rattle.roads.proofs.Judged.{at, by_number, one_below, above, zone_at_lem, text_at}
+use Rattle.roads.proofs.Judged.{at, by_number, above, zone_at_lem, text_at}
 use Rattle.session.specs.Sessions.{text, frame, add, remove, report, in_room, quiet}
 use Rattle.session.proofs.Demand3.{stays_sound}
 use Rattle.journal.specs.declared.asking.Entry.{Entry}
@@ -43,17 +38,7 @@ use Rattle.journal.specs.declared.asking.Entry.TheVariants.{Add, Remove, Report,
 use Rattle.texts.specs.Numbers.{in_hex}
 use Rattle.journal.specs.Lines.{F, Asks, adds, removes, reports, says, frames, unreadable, asks_of}
 use Rattle.journal.specs.Journal.{lent, output_line, Yield, yield_of, line_yields}
-use Rattle.journal.specs.Inner.{entry_of, frame_sought, sought_of, look_up, place_of, asked_of_holder, asked_framed, entry_judged, unfit_of, frame_replied, output_of}
-
--- where the record is not sound, every readable line is refused for that
-pub unfit_judged : (fit : Bool) (entry : Entry) (found : Found) (z : Zone) → not fit ≡ true → verdict_seen z (Refuses (unfit_of entry)) ≡ judged z (entry_judged fit entry found z)
-unfit_judged true entry found z h = absurd (let z : ◌≡◌ {A = ℕ} 0 1 = cc in omega arith)
-unfit_judged false (Add zone address range) found z h = refl
-unfit_judged false (Remove zone) found z h = refl
-unfit_judged false (Report zone state actual) found z h = refl
-unfit_judged false (Text zone parsed) found z h = refl
-unfit_judged false (Frame framed) found z h = refl
-unfit_judged false Unreadable found z h = refl
+use Rattle.journal.specs.Inner.{entry_of, frame_sought, sought_of, look_up, place_of, asked_of_holder, asked_framed, entry_judged, frame_replied, output_of}
 
 -- ---- the zone that is looked at
 
@@ -61,9 +46,9 @@ unfit_judged false Unreadable found z h = refl
 held_found : (r : Record) (address : ℕ) → held_in r.zones address ≡ not (is_nowhere (find_of r address))
 held_found r address = by_found (find_of r address) refl
   where
-    by_found : (f : Found) → find_of r address ≡ f → held_in r.zones address ≡ not (is_nowhere f)
-    by_found (At n) e = sym (found_somewhere r.zones address n e)
-    by_found Nowhere e = sym (found_nowhere r.zones address e)
+    by_found : (f : Option ℕ) → find_of r address ≡ f → held_in r.zones address ≡ not (is_nowhere f)
+    by_found (Some n) e = sym (found_somewhere r.zones address n e)
+    by_found None e = sym (found_nowhere r.zones address e)
 
 add_at_lem : (r : Record) (n address range : ℕ) → add_of r n address range ≡ at r (one_of_sixteen n) (entry_judged (sound r) (Add n address range) (find_of r address) (zone_at r (one_of_sixteen n)))
 unfolding add_of
@@ -78,7 +63,7 @@ add_at_lem r n address range =
 -- ---- a frame
 
 -- a zone that was found is asked what the frame brings
-held_at : (r : Record) (address n : ℕ) (what : Asked) → find_of r address ≡ At n
+held_at : (r : Record) (address n : ℕ) (what : Asked) → find_of r address ≡ Some n
     → ask_of r n what ≡ at r (one_of_sixteen n) (unless ((not (sound r) gives 2) ∷ []) (ask_at (zone_at r (one_of_sixteen n)) what))
 unfolding ask_of
 held_at r address n what e = by_sound (sound r) refl
@@ -95,19 +80,19 @@ held_at r address n what e = by_sound (sound r) refl
         there_at ∙ ap (λ (p : ℕ). at r p (unless ((not true gives 2) ∷ []) (ask_at (zone_at r p) what))) (sym here)
 
 -- nobody holds the address: 5, whatever the frame brings
-nobody_at : (r : Record) (bytes : List ℕ) → shaped bytes ≡ true → find_of r (address_in bytes) ≡ Nowhere
-    → frame_result r bytes lent ≡ at r 15 (unless ((not (sound r) gives 2) ∷ []) (ask_at (zone_at r 15) (Failed refusal.NobodyHolds)))
+nobody_at : (r : Record) (bytes : List ℕ) → shaped bytes ≡ true → find_of r (address_in bytes) ≡ None
+    → frame_result r bytes lent ≡ at r 15 (unless ((not (sound r) gives 2) ∷ []) (ask_at (zone_at r 15) (Err refusal.NobodyHolds)))
 nobody_at r bytes h e = rw (h, e) (by_sound (sound r))
   where
     by_sound : (s : Bool)
-        → result_at r 16 ((not s gives 2) ∷ (true gives 5) ∷ []) (body_read (body_in bytes)) ≡ at r 15 (unless ((not s gives 2) ∷ []) (ask_at (zone_at r 15) (Failed refusal.NobodyHolds)))
+        → result_at r 16 ((not s gives 2) ∷ (true gives 5) ∷ []) (body_read (body_in bytes)) ≡ at r 15 (unless ((not s gives 2) ∷ []) (ask_at (zone_at r 15) (Err refusal.NobodyHolds)))
     by_sound true = refl
     by_sound false = refl
 
-abbrev found_by : Record → Framed → Found
+abbrev found_by : Record → Framed → Option ℕ
 found_by r framed = look_up r (frame_sought framed)
 
-abbrev framed_at : Record → Framed → Found → Result Record
+abbrev framed_at : Record → Framed → Option ℕ → Result Record
 framed_at r framed found = at r (one_of_sixteen (zone_found found)) (unless ((not (sound r) gives 2) ∷ []) (ask_at (zone_at r (one_of_sixteen (zone_found found))) (asked_framed framed found)))
 
 frame_at : (r : Record) (bytes : List ℕ)
@@ -115,21 +100,21 @@ frame_at : (r : Record) (bytes : List ℕ)
     ≡ at r (one_of_sixteen (zone_found (found_by r (frame_read bytes)))) (entry_judged (sound r) (Frame (frame_read bytes)) (found_by r (frame_read bytes)) (zone_at r (one_of_sixteen (zone_found (found_by r (frame_read bytes))))))
 frame_at r bytes = by_framed (frame_read bytes) refl
   where
-    shapeless : (s : Bool) → result_at r (zone_found (holder r bytes)) ((not s gives 2) ∷ (true gives 4) ∷ []) (body_read (body_in bytes)) ≡ at r 15 (unless ((not s gives 2) ∷ []) (ask_at (zone_at r 15) (Failed refusal.NoFrame)))
+    shapeless : (s : Bool) → result_at r (zone_found (holder r bytes)) ((not s gives 2) ∷ (true gives 4) ∷ []) (body_read (body_in bytes)) ≡ at r 15 (unless ((not s gives 2) ∷ []) (ask_at (zone_at r 15) (Err refusal.NoFrame)))
     shapeless true = refl
     shapeless false = refl
 
-    by_holder_lem : (framed : Framed) (what : Asked) → shaped bytes ≡ true → ((f : Found) → asked_framed framed f ≡ asked_of_holder f what)
-        → ((n : ℕ) → find_of r (address_in bytes) ≡ At n → ask_of r n what ≡ frame_result r bytes lent)
-        → (f : Found) → find_of r (address_in bytes) ≡ f → frame_result r bytes lent ≡ framed_at r framed f
-    by_holder_lem framed what h w asked (At n) e = rw (w (At n)) (sym (asked n e) ∙ held_at r (address_in bytes) n what e)
-    by_holder_lem framed what h w asked Nowhere e = rw (w Nowhere) (nobody_at r bytes h e)
+    by_holder_lem : (framed : Framed) (what : Asked) → shaped bytes ≡ true → ((f : Option ℕ) → asked_framed framed f ≡ asked_of_holder f what)
+        → ((n : ℕ) → find_of r (address_in bytes) ≡ Some n → ask_of r n what ≡ frame_result r bytes lent)
+        → (f : Option ℕ) → find_of r (address_in bytes) ≡ f → frame_result r bytes lent ≡ framed_at r framed f
+    by_holder_lem framed what h w asked (Some n) e = rw (w (Some n)) (sym (asked n e) ∙ held_at r (address_in bytes) n what e)
+    by_holder_lem framed what h w asked None e = rw (w None) (nobody_at r bytes h e)
 
     by_framed : (framed : Framed) → frame_read bytes ≡ framed → frame_result r bytes lent ≡ framed_at r framed (found_by r framed)
     by_framed NoFrame e = rw (no_shape bytes e) (shapeless (sound r))
     by_framed (BadSum a) e =
         let k = bad_sum bytes a e in
-        by_holder_lem (BadSum a) (Failed refusal.Checksum) k.0 (λ f. refl) (λ n q. held_sum r bytes lent (omega arith) k.0 n q k.1) (find_of r a) (ap (find_of r) (sym k.2))
+        by_holder_lem (BadSum a) (Err refusal.Checksum) k.0 (λ f. refl) (λ n q. held_sum r bytes lent (omega arith) k.0 n q k.1) (find_of r a) (ap (find_of r) (sym k.2))
     by_framed (Request a p) e =
         let k = right_sum bytes a p e in
         by_holder_lem (Request a p) (asked_by p) k.0 (λ f. refl) (λ n q. rw k.3 (held_right r bytes lent (omega arith) k.0 n q k.1)) (find_of r a) (ap (find_of r) (sym k.2))
@@ -164,7 +149,7 @@ frame_shown r bytes =
     by_framed (Request a p) e = rw (right_sum bytes a p e).2
 
 -- where an entry looks, and what it comes to there
-abbrev looks_for : Record → Entry → Found
+abbrev looks_for : Record → Entry → Option ℕ
 looks_for r entry = look_up r (sought_of entry)
 
 abbrev looks_at : Record → Entry → ℕ
@@ -233,16 +218,8 @@ sound_kept r line = by_sound (sound r) refl
     by_sound true h = call_kept r (asks_of line) h
     by_sound false h = ap (λ (y : Yield). sound y.after) (came r (asks_of line)) ∙ ap sound (unsound_kept r (entry_of (asks_of line)) h) ∙ h
 
-pub place_below : (entry : Entry) (found : Found) → place_of entry found < 16
-place_below (Add n address range) found = one_below n
-place_below (Remove n) found = one_below n
-place_below (Report n state actual) found = one_below n
-place_below (Text n parsed) found = one_below n
-place_below (Frame framed) found = one_below (zone_found found)
-place_below Unreadable found = omega arith
-
 -- the same, of the values as the loop has them
-pub turn_yields : (r r' : Record) (line : List ℕ) (fit : Bool) (entry : Entry) (found : Found) (n : ℕ) (v : Verdict)
+pub turn_yields : (r r' : Record) (line : List ℕ) (fit : Bool) (entry : Entry) (found : Option ℕ) (n : ℕ) (v : Verdict)
     → entry ≡ entry_of (asks_of line) → found ≡ look_up r (sought_of entry) → n ≡ place_of entry found → fit ≡ sound r
     → verdict_seen (zone_at r n) v ≡ judged (zone_at r n) (entry_judged fit entry found (zone_at r n))
     → r' ≡ with_zone r n (after_by v (zone_at r n))

@@ -1,5 +1,5 @@
 -- The parts of an output line: how long each is, and how they stand one behind the other in the room. Assumes nothing.
-use Prim.Native.Nat.{ℕ, ◌+◌, ◌-◌, ◌/◌, ◌%◌, ◌≤◌, ◌<◌}
+use Prim.Native.Nat.{ℕ, ◌+◌, ◌-◌, ◌≤◌, ◌<◌}
 use mathlib.Core.Path.{◌≡◌, ◌∙◌}
 use mathlib.Core.List.{List, [], ◌∷◌, ◌++◌, append_assoc}
 use native.Mathlib.Omega.{arith}
@@ -7,7 +7,6 @@ use native.Mathlib.Numerals.{add-one}
 use lib.ListN.{length, take, drop, set, length-append}
 use lib.Seq.{take-append_seam, drop-cons, set-append_seam, append_snoc}
 use lib.Dec.{ltb}
-use borrow.Author.Tests.{lt-ltb, le-ltb}
 use borrow.Rule.Slice.PartMut.{put_mid}
 use Rattle.zone.specs.declared.figures.Figures.{Figures}
 use Rattle.card.specs.declared.answers.Refusal.{Refusal}
@@ -24,7 +23,6 @@ use Rattle.roads.specs.Acknowledgements.{frame_reply}
 use Rattle.roads.proofs.Lengths.{either, text_fits, frame_fits}
 use Rattle.journal.specs.declared.asking.Entry.{Entry}
 use Rattle.journal.specs.declared.asking.Entry.TheVariants.{Add, Remove, Report, Text, Frame, Unreadable}
-use Rattle.texts.specs.Numbers.{in_hex}
 use Rattle.journal.specs.Journal.{number_digits, output_line}
 use Rattle.texts.specs.Texts.{tab, line_feed, or_dash}
 use Rattle.texts.proofs.Hex.{hex_length}
@@ -32,7 +30,6 @@ use Rattle.journal.specs.Inner.{frame_replied, reply_of}
 
 -- ---- how long the parts are
 
--- a number has at most two digits
 refusal_below : (why : Refusal) → refusal_number why < 100
 refusal_below refusal.NoRoom = omega arith
 refusal_below refusal.NotSound = omega arith
@@ -78,48 +75,11 @@ dash_fits (x ∷ reply) h = h
 pub reply_count : (entry : Entry) (number : ℕ) (values : List Figures) (room after : List ℕ) (n : ℕ) → Filled (or_dash (reply_of entry number values)) room after n → n ≤ 32
 reply_count entry number values room after n f = omega (arith, f.count, dash_fits (reply_of entry number values) (reply_fits entry number values))
 
--- ---- a reply, or the dash
-
--- nothing was put: the dash stands for it
-pub dash_put : (reply room between after : List ℕ) (n m : ℕ) → Filled reply room between n → n ≡ 0 → Filled (or_dash []) between after m → Filled (or_dash reply) room after m
-dash_put [] room between after n m f e g = rw (← f.contents) g
-dash_put (x ∷ reply) room between after n m f e g = absurd (omega (arith, f.count))
-
--- what was put is no empty reply
-pub reply_put : (reply room after : List ℕ) (n : ℕ) → Filled reply room after n → (n ≡ 0 → ⊥) → Filled (or_dash reply) room after n
-reply_put [] room after n f h = absurd (h f.count)
-reply_put (x ∷ reply) room after n f h = f
-
 -- what was put is at the front of the room
-pub put_within : (reply room after : List ℕ) (n : ℕ) → Filled reply room after n → n ≤ length after
-put_within reply room after n f = rw (f.contents, length-append reply (drop (length reply) room)) (omega (arith, f.count))
-
-pub taken_back : (reply room after : List ℕ) (n : ℕ) → Filled reply room after n → take (n - 0) after ≡ reply
-taken_back reply room after n f =
-    let e : n - 0 ≡ length reply = omega (arith, f.count) in
-    rw (f.contents, e) (take-append_seam reply (drop (length reply) room))
-
--- the dash, or the digits, of a reply that was put into a room of its own first
-pub hex_dash_put : (reply own between room after : List ℕ) (n m : ℕ) → Filled reply own between n → n ≡ 0 → Filled (or_dash []) room after m → Filled (or_dash (in_hex reply)) room after m
-unfolding in_hex
-hex_dash_put [] own between room after n m f e g = g
-hex_dash_put (x ∷ reply) own between room after n m f e g = absurd (omega (arith, f.count))
-
-pub hex_put : (reply own between room after : List ℕ) (n m : ℕ) → Filled reply own between n → (n ≡ 0 → ⊥) → Filled (in_hex (take (n - 0) between)) room after m → Filled (or_dash (in_hex reply)) room after m
-unfolding in_hex
-hex_put [] own between room after n m f h g = absurd (h f.count)
-hex_put (x ∷ reply) own between room after n m f h g = rw (taken_back (x ∷ reply) own between n f) at g
+pub taken_back : (reply room after : List ℕ) (n : ℕ) → Filled reply room after n → take n after ≡ reply
+taken_back reply room after n f = rw (f.contents, f.count) (take-append_seam reply (drop (length reply) room))
 
 -- ---- the number's digits
-
-pub one_digit : (n : ℕ) → n < 10 → number_digits n ≡ (48 + n) ∷ []
-one_digit n h = let e : n / 1 % 10 ≡ n = omega arith in rw (lt-ltb n 10 h, e)
-
-pub two_digits : (n : ℕ) → 10 ≤ n → n < 100 → number_digits n ≡ (48 + n / 10) ∷ (48 + n % 10) ∷ []
-two_digits n k h =
-    let e : n / 10 % 10 ≡ n / 10 = omega arith in
-    let d : n / 1 % 10 ≡ n % 10 = omega arith in
-    rw (le-ltb n 10 k, e, d)
 
 pub decimal_fits : (n : ℕ) → length (number_digits n) ≤ 2
 decimal_fits n = either (ltb n 10) (digits_for 1 n) (digits_for 2 n) 2 (omega arith) (omega arith)

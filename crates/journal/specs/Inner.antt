@@ -1,18 +1,14 @@
 -- What the functions on the way come to. Everything here restates Lines, Journal or Blocks for such a function, and is proved equal to it; no promise of `feed` cites it.
-use Rattle.std.specs.Prelude.{ℕ, ◌*◌, ◌≤◌, ◌≡◌, Bool, not, List, [], ◌∷◌, length, get_or, take, drop, leb}
+use Rattle.std.specs.Prelude.{ℕ, ◌*◌, ◌≤◌, ◌≡◌, Bool, false, not, Option, None, Some, List, [], ◌∷◌, length, get_or, take, drop, leb, eqb, Err}
 use Rattle.zone.specs.declared.figures.Figures.{Figures}
 use Rattle.zone.specs.declared.zones.Zone.{Zone}
 use Rattle.card.specs.declared.answers.Refusal.{Refusal}
 use Rattle.card.specs.declared.answers.Refusal.TheVariants as refusal
-use Rattle.card.specs.declared.judgements.Asked.{Asked}
-use Rattle.card.specs.declared.judgements.Asked.TheVariants.{Failed}
 use Rattle.card.specs.declared.records.Record.{Record}
-use Rattle.card.specs.declared.records.Found.{Found}
-use Rattle.card.specs.declared.records.Found.TheVariants.{At, Nowhere}
 use Rattle.card.specs.Refusals.{◌gives◌}
 use Rattle.card.specs.Records.{find_of}
 use Rattle.card.specs.Calls.{Judgement, add_at, remove_at, report_at}
-use Rattle.card.specs.Inner.{ask_at}
+use Rattle.card.specs.Inner.{ask_at, Asked}
 use Rattle.wire.specs.Road.{Numbers, are, none}
 use Rattle.line.specs.Line.{line_read}
 use Rattle.frame.specs.declared.reading.Framed.{Framed}
@@ -21,23 +17,24 @@ use Rattle.frame.specs.Frame.{frame_read}
 use Rattle.roads.specs.Acknowledgements.{text_reply, frame_reply}
 use Rattle.roads.specs.Calls.{is_nowhere, zone_found}
 use Rattle.roads.specs.Inner.{asked_by, one_of_sixteen, unless, missing, asked_of}
-use Rattle.journal.specs.declared.asking.Triple.{Triple}
-use Rattle.journal.specs.declared.asking.Triple.TheVariants as triple
 use Rattle.journal.specs.declared.asking.Entry.{Entry}
 use Rattle.journal.specs.declared.asking.Entry.TheVariants.{Add, Remove, Report, Text, Frame, Unreadable}
-use Rattle.journal.specs.declared.judging.Sought.{Sought}
-use Rattle.journal.specs.declared.judging.Sought.TheVariants.{Nobody, Address}
 use Rattle.journal.specs.declared.blocks.Done.{Done}
 use Rattle.texts.specs.Numbers.{in_hex}
-use Rattle.texts.specs.Texts.{ended, begun}
+use Rattle.texts.specs.Texts.{tab, ended, begun}
 use Rattle.journal.specs.Lines.{Asks, adds, removes, reports, says, frames, unreadable, N, X, M, T, F, E}
 use Rattle.journal.specs.Journal.{output_line, lines_yield}
 
 -- ---- reading
 
-abbrev pub triple_of : Numbers → Triple
-triple_of none = triple.Bad
-triple_of (are ns) = triple.Are (get_or ns 0 0) (get_or ns 1 0) (get_or ns 2 0)
+abbrev pub triple_of : Numbers → Option (ℕ × ℕ × ℕ)
+triple_of none = None
+triple_of (are ns) = Some (get_or ns 0 0, get_or ns 1 0, get_or ns 2 0)
+
+-- a tab stands in front
+abbrev pub tabbed : List ℕ → Bool
+tabbed [] = false
+tabbed (x ∷ l) = eqb x tab
 
 -- what is asked, a line or a frame being read already
 abbrev pub entry_of : Asks → Entry
@@ -50,26 +47,26 @@ entry_of unreadable = Unreadable
 
 -- ---- judging
 
--- the address that is to be looked up
-abbrev pub frame_sought : Framed → Sought
-frame_sought NoFrame = Nobody
-frame_sought (BadSum address) = Address address
-frame_sought (Request address parsed) = Address address
+-- the address that is to be looked up, if one is
+abbrev pub frame_sought : Framed → Option ℕ
+frame_sought NoFrame = None
+frame_sought (BadSum address) = Some address
+frame_sought (Request address parsed) = Some address
 
-abbrev pub sought_of : Entry → Sought
-sought_of (Add zone address range) = Address address
-sought_of (Remove zone) = Nobody
-sought_of (Report zone state actual) = Nobody
-sought_of (Text zone parsed) = Nobody
+abbrev pub sought_of : Entry → Option ℕ
+sought_of (Add zone address range) = Some address
+sought_of (Remove zone) = None
+sought_of (Report zone state actual) = None
+sought_of (Text zone parsed) = None
 sought_of (Frame framed) = frame_sought framed
-sought_of Unreadable = Nobody
+sought_of Unreadable = None
 
-abbrev pub look_up : Record → Sought → Found
-look_up r Nobody = Nowhere
-look_up r (Address address) = find_of r address
+abbrev pub look_up : Record → Option ℕ → Option ℕ
+look_up r None = None
+look_up r (Some address) = find_of r address
 
 -- the zone that is looked at
-abbrev pub place_of : Entry → Found → ℕ
+abbrev pub place_of : Entry → Option ℕ → ℕ
 place_of (Add zone address range) found = one_of_sixteen zone
 place_of (Remove zone) found = one_of_sixteen zone
 place_of (Report zone state actual) found = one_of_sixteen zone
@@ -78,23 +75,23 @@ place_of (Frame framed) found = one_of_sixteen (zone_found found)
 place_of Unreadable found = 15
 
 -- what a frame brings to the zone that holds its address
-abbrev pub asked_of_holder : Found → Asked → Asked
-asked_of_holder (At n) asked = asked
-asked_of_holder Nowhere asked = Failed refusal.NobodyHolds
+abbrev pub asked_of_holder : Option ℕ → Asked → Asked
+asked_of_holder (Some n) asked = asked
+asked_of_holder None asked = Err refusal.NobodyHolds
 
-abbrev pub asked_framed : Framed → Found → Asked
-asked_framed NoFrame found = Failed refusal.NoFrame
-asked_framed (BadSum address) found = asked_of_holder found (Failed refusal.Checksum)
+abbrev pub asked_framed : Framed → Option ℕ → Asked
+asked_framed NoFrame found = Err refusal.NoFrame
+asked_framed (BadSum address) found = asked_of_holder found (Err refusal.Checksum)
 asked_framed (Request address parsed) found = asked_of_holder found (asked_by parsed)
 
 -- what an entry comes to at the zone that is looked at; `fit` says that the record is sound
-abbrev pub entry_judged : Bool → Entry → Found → Zone → Judgement
+abbrev pub entry_judged : Bool → Entry → Option ℕ → Zone → Judgement
 entry_judged fit (Add n address range) found z = unless ((not fit gives 2) ∷ (leb 16 n gives 3) ∷ []) (add_at z address range (not (is_nowhere found)))
 entry_judged fit (Remove n) found z = unless ((not fit gives 2) ∷ (missing z n gives 3) ∷ []) (remove_at z)
 entry_judged fit (Report n state actual) found z = unless ((not fit gives 2) ∷ (missing z n gives 3) ∷ []) (report_at z state actual)
 entry_judged fit (Text n parsed) found z = unless ((not fit gives 2) ∷ []) (ask_at z (asked_of z n parsed))
 entry_judged fit (Frame framed) found z = unless ((not fit gives 2) ∷ []) (ask_at z (asked_framed framed found))
-entry_judged fit Unreadable found z = ask_at z (Failed refusal.Unreadable)
+entry_judged fit Unreadable found z = ask_at z (Err refusal.Unreadable)
 
 -- how an entry is refused where the record is not sound
 abbrev pub unfit_of : Entry → Refusal

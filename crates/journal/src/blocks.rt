@@ -1,13 +1,13 @@
 // The lines of a block, one after the other: the one loop that holds the record.
-ghost use Rattle.std.specs.Prelude.{◌≡◌, ◌+◌, ◌*◌, ◌≤◌, ◌<◌, min, length, take, drop};
+ghost use Rattle.std.specs.Prelude.{◌≡◌, ◌+◌, ◌*◌, ◌≤◌, ◌<◌, length, take, drop};
 ghost use Rattle.journal.specs.Blocks.{fed, closed, kept_seen};
 ghost use Rattle.journal.specs.Inner.{Worked};
 
-use crate::asking::asks;
-use crate::judging::{Sought, judged, place, whom};
+use crate::asking::Reader;
+use crate::judging::{judged, place, whom};
 use crate::writing::put_judged;
-use card::{Found, Record};
-use texts::{digit_values, line_end};
+use card::Record;
+use texts::line_end;
 
 // The record after the lines that were answered, where they end, and how much output there is.
 #[derive(Clone, Copy)]
@@ -32,20 +32,20 @@ fn lines(given: Record, block: &[u8], out: &mut [u8]) -> Done
     ensures { Worked given block.now out.new result }
 {
     let fit = given.is_sound();
-    let values = digit_values();
-    let mut room = [0u8; 261];
+    let mut reader = Reader::new();
     let mut r = given;
-    let mut at: usize = 0;
-    let mut filled: usize = 0;
+    let mut at = 0;
+    let mut filled = 0;
+    // A step is a line long, and ends the loop where no line feed is left: no range or iterator counts it.
     loop {
         let end = line_end(block, at);
         if block.len() <= end {
             break;
         }
-        let entry = asks(&block[at..end], &values, &mut room);
+        let entry = reader.asks(&block[at..end]);
         let found = match whom(entry) {
-            Sought::Nobody => Found::Nowhere,
-            Sought::Address(address) => r.find(address),
+            None => None,
+            Some(address) => r.find(address),
         };
         let n = place(entry, found);
         let z = r.zones[n];
@@ -53,21 +53,14 @@ fn lines(given: Record, block: &[u8], out: &mut [u8]) -> Done
         if verdict.alters() {
             r.zones[n] = verdict.after(z);
         }
-        filled = filled + put_judged(entry, verdict, &mut out[filled..]);
+        filled += put_judged(entry, verdict, &mut out[filled..]);
         at = end + 1;
     }
     Done {
         after: r,
         taken: at,
-        filled: filled,
+        filled,
     }
-}
-
-// How many of n bytes are held.
-fn held_of(n: usize) -> usize
-    ensures { result ≡ min 601 n }
-{
-    if n < 601 { n } else { 601 }
 }
 
 // Moves the bytes from `at` to `end` to the front, but no more than 601 of them.
@@ -76,12 +69,8 @@ fn keep(buffer: &mut [u8], at: usize, end: usize) -> usize
     ensures buffer_after { take result buffer.new ≡ take 601 (drop at (take end buffer.old)) }
     ensures upper_bound { (result ≤ 601) × (result ≤ end) }
 {
-    let n = held_of(end - at);
-    let mut i: usize = 0;
-    while i < n {
-        buffer[i] = buffer[at + i];
-        i += 1;
-    }
+    let n = (end - at).min(601);
+    buffer.copy_within(at..at + n, 0);
     n
 }
 
@@ -92,15 +81,11 @@ pub fn feed(given: Record, buffer: &mut [u8], end: usize, out: &mut [u8]) -> Kep
     ensures buffer_after { kept_seen result out.new buffer.new ≡ fed given (take end buffer.old) }
     ensures held_bound { (result.held ≤ 601) × (result.held ≤ end) × (result.filled ≤ 8 * end) }
 {
-    let done = lines(given, &buffer[0..end], out);
-    let after = done.after;
-    let filled = done.filled;
-    let at = done.taken;
-    let held = keep(buffer, at, end);
+    let done = lines(given, &buffer[..end], out);
     Kept {
-        after: after,
-        held: held,
-        filled: filled,
+        after: done.after,
+        held: keep(buffer, done.taken, end),
+        filled: done.filled,
     }
 }
 

@@ -7,7 +7,7 @@ ghost use Rattle.roads.specs.Acknowledgements.{text_reply, frame_reply};
 ghost use Rattle.texts.specs.Numbers.{in_hex};
 ghost use Rattle.journal.specs.Journal.{number_digits};
 ghost use Rattle.texts.specs.Texts.{tab, or_dash};
-ghost use Rattle.journal.specs.Inner.{letter_of, reply_of, frame_replied, output_of};
+ghost use Rattle.journal.specs.Inner.{letter_of, reply_of, output_of};
 
 use crate::asking::Entry;
 use card::{Answer, Verdict};
@@ -27,80 +27,53 @@ fn letter(entry: Entry) -> u8
     }
 }
 
-// The letter and the number, each with its tab.
+// The letter and the number, each with its tab. The digits are put by hand: the library's formatting takes any number and
+// any room, so it returns a Result, and here the room is enough.
 fn put_head(letter: u8, number: u32, room: &mut [u8]) -> usize
     requires { (number < 100) × (5 ≤ length room.old) }
     ensures { Filled (letter ∷ tab ∷ (number_digits number ++ (tab ∷ []))) room.old room.new result }
 {
+    let tens = b'0' + (number / 10) as u8;
+    let ones = b'0' + (number % 10) as u8;
     if number < 10 {
-        let head = [letter, b'\t', 48 + (number as u8), b'\t'];
-        wire::copy(&head, room)
+        wire::copy(&[letter, b'\t', ones, b'\t'], room)
     } else {
-        let head = [
-            letter,
-            b'\t',
-            48 + ((number / 10) as u8),
-            48 + ((number % 10) as u8),
-            b'\t',
-        ];
-        wire::copy(&head, room)
+        wire::copy(&[letter, b'\t', tens, ones, b'\t'], room)
     }
-}
-
-// "-", where there is no reply.
-fn put_dash(room: &mut [u8]) -> usize
-    requires { 1 ≤ length room.old }
-    ensures { Filled (or_dash []) room.old room.new result }
-{
-    wire::copy(b"-", room)
-}
-
-fn put_text_reply(answer: Answer, room: &mut [u8]) -> usize
-    requires { 32 ≤ length room.old }
-    ensures { Filled (or_dash (text_reply (number_of answer) (values_of answer))) room.old room.new result }
-{
-    let n = roads::put_text(answer, room);
-    if n == 0 {
-        return put_dash(room);
-    }
-    n
 }
 
 // A frame's reply is put as bytes into a room of its own, and from there in digits.
 fn put_frame_reply(address: u8, answer: Answer, room: &mut [u8]) -> usize
     requires { 32 ≤ length room.old }
-    ensures { Filled (or_dash (in_hex (frame_reply address (number_of answer) (values_of answer)))) room.old room.new result }
+    ensures { Filled (in_hex (frame_reply address (number_of answer) (values_of answer))) room.old room.new result }
 {
-    let mut reply = [0u8; 32];
+    let mut reply = [0; 32];
     let n = roads::put_frame(address, answer, &mut reply);
-    if n == 0 {
-        return put_dash(room);
-    }
-    put_hex(&reply[0..n], room)
+    put_hex(&reply[..n], room)
 }
 
-fn put_framed_reply(framed: Framed, answer: Answer, room: &mut [u8]) -> usize
-    requires { 32 ≤ length room.old }
-    ensures { Filled (or_dash (frame_replied framed (number_of answer) (values_of answer))) room.old room.new result }
-{
-    match framed {
-        Framed::NoFrame => put_dash(room),
-        Framed::BadSum(address) => put_frame_reply(address, answer, room),
-        Framed::Request(address, _) => put_frame_reply(address, answer, room),
-    }
-}
-
+// The reply, if there is one.
 fn put_reply(entry: Entry, answer: Answer, room: &mut [u8]) -> usize
+    requires { 32 ≤ length room.old }
+    ensures { Filled (reply_of entry (number_of answer) (values_of answer)) room.old room.new result }
+{
+    match entry {
+        Entry::Text(_, _) => roads::put_text(answer, room),
+        Entry::Frame(Framed::BadSum(address) | Framed::Request(address, _)) => {
+            put_frame_reply(address, answer, room)
+        }
+        _ => 0,
+    }
+}
+
+// The reply, or "-" where there is none.
+fn put_reply_or_dash(entry: Entry, answer: Answer, room: &mut [u8]) -> usize
     requires { 32 ≤ length room.old }
     ensures { Filled (or_dash (reply_of entry (number_of answer) (values_of answer))) room.old room.new result }
 {
-    match entry {
-        Entry::Add(_, _, _) => put_dash(room),
-        Entry::Remove(_) => put_dash(room),
-        Entry::Report(_, _, _) => put_dash(room),
-        Entry::Text(_, _) => put_text_reply(answer, room),
-        Entry::Frame(framed) => put_framed_reply(framed, answer, room),
-        Entry::Unreadable => put_dash(room),
+    match put_reply(entry, answer, room) {
+        0 => wire::copy(b"-", room),
+        n => n,
     }
 }
 
@@ -111,7 +84,7 @@ fn put_output(entry: Entry, answer: Answer, room: &mut [u8]) -> usize
     ensures upper_bound { result ≤ 40 }
 {
     let k = put_head(letter(entry), answer.number(), room);
-    let n = put_reply(entry, answer, &mut room[k..]);
+    let n = put_reply_or_dash(entry, answer, &mut room[k..]);
     let end = k + n;
     room[end] = b'\n';
     end + 1

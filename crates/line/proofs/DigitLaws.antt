@@ -1,19 +1,19 @@
 -- Digits one at a time, as the loop of `digits` cites them: which is wrong, or what number they make. Assumes nothing.
+use Rattle.std.specs.Prelude.{Err, None, Ok, Option, Some}
+use Rattle.std.specs.Result.{result_ok}
 use Prim.Native.Nat.compare
 use Prim.Native.Nat.{ℕ, zero, suc, ◌+◌, ◌-◌, ◌*◌, ◌≤◌, ◌<◌}
 use mathlib.Core.Path.{◌≡◌, refl, ◌∙◌}
 use mathlib.Core.Bool.{Bool, true, false, cond}
 use mathlib.Core.List.{List, [], ◌∷◌}
+use mathlib.Core.Logic.{◌⊎◌, inl, inr}
 use native.Mathlib.Omega.{arith}
 use native.Mathlib.Numerals.{add-one}
 use lib.ListN.{length, drop, get_or, drop_of_length-le}
 use lib.Seq.{drop-cons}
 use lib.Dec.{ltb, eqb}
 use borrow.Author.Tests.{lt-ltb, le-ltb, ltb-true, ltb-false, le-leb, lt-leb, ne_eqb}
-use Rattle.wire.specs.declared.Figure.{Figure}
-use Rattle.wire.specs.declared.Figure.TheVariants as figure
 use Rattle.wire.proofs.Choices.{by_cond}
-use Rattle.line.specs.declared.fields.Judged.TheVariants.{Value, Wrong}
 use Rattle.line.specs.Field.{digits_behind, digits_of}
 use Rattle.line.specs.Places.{Place, offset, wrong_from, digits_expected}
 use Rattle.line.specs.Inner.{judged_by, digits_read, digits_walked}
@@ -21,22 +21,22 @@ use Rattle.line.specs.Inner.{judged_by, digits_read, digits_walked}
 -- ---- the walk gives the number where the field is a figure of its width, and the place of the field where it is none
 
 by_digit : (v i w x : ℕ) (l : List ℕ) (t u : Bool) → ltb x 48 ≡ t → ltb 57 x ≡ u
-    → digits_walked (v * 10 + (x - 48)) (i + 1) w l ≡ judged_by (cond (eqb (length l) w) (digits_behind (v * 10 + (x - 48)) l) figure.Bad) (wrong_from (i + 1) (digits_expected w) l)
-    → digits_walked v i (suc w) (x ∷ l) ≡ judged_by (cond (eqb (length l) w) (digits_behind v (x ∷ l)) figure.Bad) (wrong_from i (digits_expected (suc w)) (x ∷ l))
+    → digits_walked (v * 10 + (x - 48)) (i + 1) w l ≡ judged_by (cond (eqb (length l) w) (digits_behind (v * 10 + (x - 48)) l) None) (wrong_from (i + 1) (digits_expected w) l)
+    → digits_walked v i (suc w) (x ∷ l) ≡ judged_by (cond (eqb (length l) w) (digits_behind v (x ∷ l)) None) (wrong_from i (digits_expected (suc w)) (x ∷ l))
 unfolding digits_walked digits_behind wrong_from
 by_digit v i w x l true u p q h = rw (p, lt-leb 48 x (ltb-true x 48 p)) (none (eqb (length l) w))
   where
-    none : (t : Bool) → Wrong i ≡ judged_by (cond t figure.Bad figure.Bad) (offset i)
+    none : (t : Bool) → Err i ≡ judged_by (cond t None None) (offset i)
     none true = refl
     none false = refl
 by_digit v i w x l false true p q h = rw (p, q, le-leb 48 x (ltb-false x 48 p), lt-leb x 57 (ltb-true 57 x q)) (none (eqb (length l) w))
   where
-    none : (t : Bool) → Wrong i ≡ judged_by (cond t figure.Bad figure.Bad) (offset i)
+    none : (t : Bool) → Err i ≡ judged_by (cond t None None) (offset i)
     none true = refl
     none false = refl
 by_digit v i w x l false false p q h = rw (p, q, le-leb 48 x (ltb-false x 48 p), le-leb x 57 (ltb-false 57 x q)) h
 
-walked_by : (v i w : ℕ) (l : List ℕ) → digits_walked v i w l ≡ judged_by (cond (eqb (length l) w) (digits_behind v l) figure.Bad) (wrong_from i (digits_expected w) l)
+walked_by : (v i w : ℕ) (l : List ℕ) → digits_walked v i w l ≡ judged_by (cond (eqb (length l) w) (digits_behind v l) None) (wrong_from i (digits_expected w) l)
 unfolding digits_walked wrong_from digits_behind
 walked_by v i zero [] = refl
 walked_by v i zero (x ∷ l) = rw (ne_eqb (suc (length l)) 0 (λ e. omega arith))
@@ -61,32 +61,30 @@ at_more v i w l h k low high =
     let n : w - i ≡ suc (w - (i + 1)) = omega arith in
     rw (n, drop-cons l i 0 h, add-one i) (simp (le-ltb _ _ low, le-ltb _ _ high))
 
-pub at_low : (v i w : ℕ) (l : List ℕ) → i < length l → i < w → get_or l i 0 < 48 → digits_walked v i (w - i) (drop i l) ≡ Wrong i
+-- at a byte that is no digit
+pub at_other : (v i w : ℕ) (l : List ℕ) → i < length l → i < w → (get_or l i 0 < 48) ⊎ (57 < get_or l i 0) → digits_walked v i (w - i) (drop i l) ≡ Err i
 unfolding digits_walked
-at_low v i w l h k low =
+at_other v i w l h k (inl low) =
     let n : w - i ≡ suc (w - (i + 1)) = omega arith in
     rw (n, drop-cons l i 0 h) (simp (lt-ltb _ _ low))
-
-pub at_high : (v i w : ℕ) (l : List ℕ) → i < length l → i < w → 48 ≤ get_or l i 0 → 57 < get_or l i 0 → digits_walked v i (w - i) (drop i l) ≡ Wrong i
-unfolding digits_walked
-at_high v i w l h k low high =
+at_other v i w l h k (inr high) =
     let n : w - i ≡ suc (w - (i + 1)) = omega arith in
-    rw (n, drop-cons l i 0 h) (simp (le-ltb _ _ low, lt-ltb _ _ high))
+    rw (n, drop-cons l i 0 h) (simp (le-ltb (get_or l i 0) 48 (omega arith), lt-ltb _ _ high))
 
 -- more bytes than digits, fewer, and just as many
-pub at_surplus : (v i w : ℕ) (l : List ℕ) → i < length l → w ≤ i → digits_walked v i (w - i) (drop i l) ≡ Wrong i
+pub at_surplus : (v i w : ℕ) (l : List ℕ) → i < length l → w ≤ i → digits_walked v i (w - i) (drop i l) ≡ Err i
 unfolding digits_walked
 at_surplus v i w l h k =
     let n : w - i ≡ 0 = omega arith in
     rw (n, drop-cons l i 0 h)
 
-pub at_short : (v i w : ℕ) (l : List ℕ) → length l ≤ i → i < w → digits_walked v i (w - i) (drop i l) ≡ Wrong i
+pub at_short : (v i w : ℕ) (l : List ℕ) → length l ≤ i → i < w → digits_walked v i (w - i) (drop i l) ≡ Err i
 unfolding digits_walked
 at_short v i w l h k =
     let n : w - i ≡ suc (w - (i + 1)) = omega arith in
     rw (n, drop_of_length-le l h)
 
-pub at_end : (v i w : ℕ) (l : List ℕ) → length l ≤ i → w ≤ i → digits_walked v i (w - i) (drop i l) ≡ Value v
+pub at_end : (v i w : ℕ) (l : List ℕ) → length l ≤ i → w ≤ i → digits_walked v i (w - i) (drop i l) ≡ Ok v
 unfolding digits_walked
 at_end v i w l h k =
     let n : w - i ≡ 0 = omega arith in
@@ -94,7 +92,7 @@ at_end v i w l h k =
 
 -- ---- what is wrong is at most one behind the last digit
 
-walked_bound : (v i w : ℕ) (l : List ℕ) (j : ℕ) → digits_walked v i w l ≡ Wrong j → j ≤ i + w
+walked_bound : (v i w : ℕ) (l : List ℕ) (j : ℕ) → digits_walked v i w l ≡ Err j → j ≤ i + w
 unfolding digits_walked
 walked_bound v i zero [] j e = absurd (let z : ◌≡◌ {A = ℕ} 0 1 = cc in omega arith)
 walked_bound v i zero (x ∷ l) j e = let z : i ≡ j = cc in omega arith
@@ -104,23 +102,15 @@ walked_bound v i (suc w) (x ∷ l) j e =
     (λ t k. let z : i ≡ j = cc in omega arith)
     (λ t k. by_cond (ltb 57 x) k (λ u h. let z : i ≡ j = cc in omega arith) (λ u h. omega (arith, walked_bound (v * 10 + (x - 48)) (i + 1) w l j h)))
 
-pub read_bound : (w : ℕ) (l : List ℕ) (j : ℕ) → digits_read w l ≡ Wrong j → j ≤ w
+pub read_bound : (w : ℕ) (l : List ℕ) (j : ℕ) → digits_read w l ≡ Err j → j ≤ w
 read_bound w l j e = omega (arith, walked_bound 0 0 w l j (digits_walked_lem w l ∙ e))
 
 -- ---- whether a field is a figure, without its place
 
-judged_is : (f : Figure) (p : Place) (n : ℕ) → judged_by f p ≡ Value n → f ≡ figure.Value n
-judged_is (figure.Value m) p n e = cc
-judged_is figure.Bad p n e = absurd (let z : ◌≡◌ {A = ℕ} 0 1 = cc in omega arith)
+judged_ok : (f : Option ℕ) (p : Place) → f ≡ result_ok (judged_by f p)
+judged_ok (Some n) p = refl
+judged_ok None p = refl
 
-judged_none : (f : Figure) (p : Place) (i : ℕ) → judged_by f p ≡ Wrong i → f ≡ figure.Bad
-judged_none (figure.Value m) p i e = absurd (let z : ◌≡◌ {A = ℕ} 0 1 = cc in omega arith)
-judged_none figure.Bad p i e = refl
-
-pub read_is : (w : ℕ) (l : List ℕ) (n : ℕ) → digits_read w l ≡ Value n → digits_of w l ≡ figure.Value n
+pub read_ok : (w : ℕ) (l : List ℕ) → digits_of w l ≡ result_ok (digits_read w l)
 unfolding digits_read
-read_is w l n e = judged_is (digits_of w l) (wrong_from 0 (digits_expected w) l) n e
-
-pub read_none : (w : ℕ) (l : List ℕ) (i : ℕ) → digits_read w l ≡ Wrong i → digits_of w l ≡ figure.Bad
-unfolding digits_read
-read_none w l i e = judged_none (digits_of w l) (wrong_from 0 (digits_expected w) l) i e
+read_ok w l = judged_ok (digits_of w l) (wrong_from 0 (digits_expected w) l)

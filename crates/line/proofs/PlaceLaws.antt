@@ -1,4 +1,5 @@
 -- Walking a line figure by figure comes to what the definitions say: its numbers where nothing is wrong, and else the place. Assumes nothing.
+use Rattle.std.specs.Prelude.{Err, None, Ok, Option, Result, Some}
 use Prim.Native.Nat.compare
 use Prim.Native.Nat.{ℕ, zero, suc, ◌+◌, ◌-◌, ◌*◌, ◌≤◌, ◌<◌}
 use mathlib.Core.Path.{◌≡◌, refl, sym, ap, ◌∙◌}
@@ -12,52 +13,48 @@ use lib.Dec.{ltb, eqb}
 use borrow.Author.Tests.{lt-leb, le-leb, ltb-true, ltb-false, eq-eqb, ne_eqb, eqb-true, eqb-false}
 use Rattle.zone.specs.Lists.{within, total}
 use Rattle.zone.specs.Table.{Column, digits}
-use Rattle.wire.specs.declared.Figure.{Figure}
-use Rattle.wire.specs.declared.Figure.TheVariants as figure
 use Rattle.wire.specs.Road.{are, none, numbers_at}
 use Rattle.wire.proofs.Choices.{by_cond}
-use Rattle.line.specs.declared.fields.Judged.{Judged}
-use Rattle.line.specs.declared.fields.Judged.TheVariants.{Value, Wrong}
 use Rattle.line.specs.Field.{up_to_space, field_of, digits_behind, digits_of, figure_of}
 use Rattle.line.specs.Line.{text_road}
 use Rattle.line.specs.Places.{Place, nowhere, offset, Expected, space, meets, wrong_from, digits_expected, figures_expected}
-use Rattle.line.specs.Inner.{judged_by, digits_read, moved, figure_read, Walked, all, wrong, onward, walk}
+use Rattle.line.specs.Inner.{judged_by, digits_read, moved, figure_read, onward, walk}
 
 -- ---- a field is a figure of its width exactly where it has no place
 
-abbrev Agree : Figure → Place → Type 0
-Agree (figure.Value n) nowhere = Unit {0}
-Agree (figure.Value n) (offset i) = ⊥
-Agree figure.Bad nowhere = ⊥
-Agree figure.Bad (offset i) = Unit {0}
+abbrev Agree : Option ℕ → Place → Type 0
+Agree (Some n) nowhere = Unit {0}
+Agree (Some n) (offset i) = ⊥
+Agree None nowhere = ⊥
+Agree None (offset i) = Unit {0}
 
-agree_by : (v i w : ℕ) (l : List ℕ) → Agree (cond (eqb (length l) w) (digits_behind v l) figure.Bad) (wrong_from i (digits_expected w) l)
+agree_by : (v i w : ℕ) (l : List ℕ) → Agree (cond (eqb (length l) w) (digits_behind v l) None) (wrong_from i (digits_expected w) l)
 unfolding digits_behind wrong_from
 agree_by v i zero [] = tt
 agree_by v i zero (x ∷ l) = rw (ne_eqb (suc (length l)) 0 (λ e. omega arith)) tt
 agree_by v i (suc w) [] = rw (ne_eqb 0 (suc w) (λ e. omega arith)) tt
 agree_by v i (suc w) (x ∷ l) = rw (compare.suc-suc (length l) w) (by_digit (ltb x 48) (ltb 57 x) refl refl (agree_by (v * 10 + (x - 48)) (i + 1) w l))
   where
-    no : (t : Bool) → Agree (cond t figure.Bad figure.Bad) (offset i)
+    no : (t : Bool) → Agree (cond t None None) (offset i)
     no true = tt
     no false = tt
 
     by_digit : (t u : Bool) → ltb x 48 ≡ t → ltb 57 x ≡ u
-        → Agree (cond (eqb (length l) w) (digits_behind (v * 10 + (x - 48)) l) figure.Bad) (wrong_from (i + 1) (digits_expected w) l)
-        → Agree (cond (eqb (length l) w) (cond t figure.Bad (cond u figure.Bad (digits_behind (v * 10 + (x - 48)) l))) figure.Bad) (cond (within 48 57 x) (wrong_from (i + 1) (digits_expected w) l) (offset i))
+        → Agree (cond (eqb (length l) w) (digits_behind (v * 10 + (x - 48)) l) None) (wrong_from (i + 1) (digits_expected w) l)
+        → Agree (cond (eqb (length l) w) (cond t None (cond u None (digits_behind (v * 10 + (x - 48)) l))) None) (cond (within 48 57 x) (wrong_from (i + 1) (digits_expected w) l) (offset i))
     by_digit true u p q h = rw (lt-leb 48 x (ltb-true x 48 p)) (no (eqb (length l) w))
     by_digit false true p q h = rw (le-leb 48 x (ltb-false x 48 p), lt-leb x 57 (ltb-true 57 x q)) (no (eqb (length l) w))
     by_digit false false p q h = rw (le-leb 48 x (ltb-false x 48 p), le-leb x 57 (ltb-false 57 x q)) h
 
-judged_value : (f : Figure) (p : Place) (n : ℕ) → Agree f p → judged_by f p ≡ Value n → (f ≡ figure.Value n) × (p ≡ nowhere)
-judged_value (figure.Value m) nowhere n a e = (cc, refl)
-judged_value (figure.Value m) (offset i) n a e = absurd a
-judged_value figure.Bad p n a e = absurd (let z : ◌≡◌ {A = ℕ} 0 1 = cc in omega arith)
+judged_value : (f : Option ℕ) (p : Place) (n : ℕ) → Agree f p → judged_by f p ≡ Ok n → (f ≡ Some n) × (p ≡ nowhere)
+judged_value (Some m) nowhere n a e = (cc, refl)
+judged_value (Some m) (offset i) n a e = absurd a
+judged_value None p n a e = absurd (let z : ◌≡◌ {A = ℕ} 0 1 = cc in omega arith)
 
-judged_wrong : (f : Figure) (p : Place) (i : ℕ) → Agree f p → judged_by f p ≡ Wrong i → (f ≡ figure.Bad) × (p ≡ offset i)
-judged_wrong (figure.Value m) p i a e = absurd (let z : ◌≡◌ {A = ℕ} 0 1 = cc in omega arith)
-judged_wrong figure.Bad nowhere i a e = absurd a
-judged_wrong figure.Bad (offset j) i a e = (refl, cc)
+judged_wrong : (f : Option ℕ) (p : Place) (i : ℕ) → Agree f p → judged_by f p ≡ Err i → (f ≡ None) × (p ≡ offset i)
+judged_wrong (Some m) p i a e = absurd (let z : ◌≡◌ {A = ℕ} 0 1 = cc in omega arith)
+judged_wrong None nowhere i a e = absurd a
+judged_wrong None (offset j) i a e = (refl, cc)
 
 -- ---- the place of a field is that of the line, which goes on behind it with a space or ends
 
@@ -150,16 +147,16 @@ space_missing l at es h e = by_length (ltb at (length l)) refl
     by_length false q = rw (drop_of_length-le l (ltb-false at (length l) q))
 
 module _ (l : List ℕ) (at w : ℕ) where
-  moved_wrong : (d : Judged) (j : ℕ) → moved (at + 1) d ≡ Wrong j → (i : ℕ) × (d ≡ Wrong i) × (at + 1 + i ≡ j)
-  moved_wrong (Value n) j e = absurd (let z : ◌≡◌ {A = ℕ} 0 1 = cc in omega arith)
-  moved_wrong (Wrong i) j e = (i, refl, cc)
+  moved_wrong : (d : Result ℕ ℕ) (j : ℕ) → moved (at + 1) d ≡ Err j → (i : ℕ) × (d ≡ Err i) × (at + 1 + i ≡ j)
+  moved_wrong (Ok n) j e = absurd (let z : ◌≡◌ {A = ℕ} 0 1 = cc in omega arith)
+  moved_wrong (Err i) j e = (i, refl, cc)
 
-  moved_value : (d : Judged) (n : ℕ) → moved (at + 1) d ≡ Value n → d ≡ Value n
-  moved_value (Value m) n e = cc
-  moved_value (Wrong i) n e = absurd (let z : ◌≡◌ {A = ℕ} 0 1 = cc in omega arith)
+  moved_value : (d : Result ℕ ℕ) (n : ℕ) → moved (at + 1) d ≡ Ok n → d ≡ Ok n
+  moved_value (Ok m) n e = cc
+  moved_value (Err i) n e = absurd (let z : ◌≡◌ {A = ℕ} 0 1 = cc in omega arith)
 
-  figure_wrong : (ks : List Column) (j : ℕ) → at ≤ length l → figure_read l at w ≡ Wrong j
-      → (figure_of l at w ≡ figure.Bad) × (wrong_from at (space ∷ (digits_expected w ++ figures_expected ks)) (drop at l) ≡ offset j)
+  figure_wrong : (ks : List Column) (j : ℕ) → at ≤ length l → figure_read l at w ≡ Err j
+      → (figure_of l at w ≡ None) × (wrong_from at (space ∷ (digits_expected w ++ figures_expected ks)) (drop at l) ≡ offset j)
   unfolding figure_read figure_of digits_read
   figure_wrong ks j h e =
       by_cond (eqb (get_or l at 0) 32) e
@@ -171,8 +168,8 @@ module _ (l : List ℕ) (at w : ℕ) where
       (rw (t, d.0), space_then l at _ (eqb-true _ _ t) ∙ field_wrong w (at + 1) (drop (at + 1) l) ks j p))
       (λ t k. (rw t, space_missing l at _ h t ∙ (let z : at ≡ j = cc in ap offset z)))
 
-  figure_value : (n : ℕ) → figure_read l at w ≡ Value n
-      → (figure_of l at w ≡ figure.Value n) × (at + (1 + w) ≤ length l) × ((es : List Expected) → wrong_from at (space ∷ (digits_expected w ++ es)) (drop at l) ≡ wrong_from (at + (1 + w)) es (drop (at + (1 + w)) l))
+  figure_value : (n : ℕ) → figure_read l at w ≡ Ok n
+      → (figure_of l at w ≡ Some n) × (at + (1 + w) ≤ length l) × ((es : List Expected) → wrong_from at (space ∷ (digits_expected w ++ es)) (drop at l) ≡ wrong_from (at + (1 + w)) es (drop (at + (1 + w)) l))
   unfolding figure_read figure_of digits_read
   figure_value n e =
       by_cond (eqb (get_or l at 0) 32) e
@@ -193,31 +190,31 @@ module _ (l : List ℕ) (at w : ℕ) where
 -- ---- all figures of a row
 
 -- what the walk comes to, beside the definitions of number and place
-abbrev pub Walks : List Column → List ℕ → ℕ → Walked → Type 0
-Walks ks l at (all ns) = (wrong_from at (figures_expected ks) (drop at l) ≡ nowhere) × (numbers_at text_road ks l at ≡ are ns) × (length l ≡ at + total (λ k. text_road.width k.kind) ks)
-Walks ks l at (wrong i) = (wrong_from at (figures_expected ks) (drop at l) ≡ offset i) × (length l ≡ at + total (λ k. text_road.width k.kind) ks → numbers_at text_road ks l at ≡ none)
+abbrev pub Walks : List Column → List ℕ → ℕ → Result (List ℕ) ℕ → Type 0
+Walks ks l at (Ok ns) = (wrong_from at (figures_expected ks) (drop at l) ≡ nowhere) × (numbers_at text_road ks l at ≡ are ns) × (length l ≡ at + total (λ k. text_road.width k.kind) ks)
+Walks ks l at (Err i) = (wrong_from at (figures_expected ks) (drop at l) ≡ offset i) × (length l ≡ at + total (λ k. text_road.width k.kind) ks → numbers_at text_road ks l at ≡ none)
 
 end_walks : (l : List ℕ) (at : ℕ) → at ≤ length l → Walks [] l at (walk [] l at)
 unfolding wrong_from
 end_walks l at h = by_length (eqb (length l) at) refl
   where
-    by_length : (t : Bool) → eqb (length l) at ≡ t → Walks [] l at (cond t (all []) (wrong at))
+    by_length : (t : Bool) → eqb (length l) at ≡ t → Walks [] l at (cond t (Ok []) (Err at))
     by_length true q =
         let e = eqb-true (length l) at q in
         (rw (drop_of_length-le l {i = at} (omega (arith, e))), refl, omega (arith, e))
     by_length false q = (rw (drop-cons l at 0 (omega (arith, eqb-false (length l) at q))), λ e. absurd (eqb-false (length l) at q (omega (arith, e))))
 
-step_walks : (k : Column) (ks : List Column) (l : List ℕ) (at : ℕ) → at ≤ length l → (d : Judged) → figure_read l at (digits k.kind) ≡ d
-    → (rest : Walked) → (at + (1 + digits k.kind) ≤ length l → Walks ks l (at + (1 + digits k.kind)) rest)
+step_walks : (k : Column) (ks : List Column) (l : List ℕ) (at : ℕ) → at ≤ length l → (d : Result ℕ ℕ) → figure_read l at (digits k.kind) ≡ d
+    → (rest : Result (List ℕ) ℕ) → (at + (1 + digits k.kind) ≤ length l → Walks ks l (at + (1 + digits k.kind)) rest)
     → Walks (k ∷ ks) l at (onward d rest)
-step_walks k ks l at h (Wrong i) e rest more =
+step_walks k ks l at h (Err i) e rest more =
     let f = figure_wrong l at (digits k.kind) ks i h e in
     (f.1, λ n. rw f.0)
-step_walks k ks l at h (Value n) e (wrong i) more =
+step_walks k ks l at h (Ok n) e (Err i) more =
     let f = figure_value l at (digits k.kind) n e in
     let m = more f.1 in
     (f.2 (figures_expected ks) ∙ m.0, λ z. rw (f.0, m.1 (omega (arith, z))))
-step_walks k ks l at h (Value n) e (all ns) more =
+step_walks k ks l at h (Ok n) e (Ok ns) more =
     let f = figure_value l at (digits k.kind) n e in
     let m = more f.1 in
     (f.2 (figures_expected ks) ∙ m.0, rw (f.0, m.1), omega (arith, m.2))

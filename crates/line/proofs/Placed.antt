@@ -1,4 +1,5 @@
 -- Number and place go together: a line is a syntax error exactly where it has the place of one, and figures are out of range exactly where they have the place of a 9. Both places lie behind the five letters and within the line. Assumes nothing.
+use Rattle.std.specs.Prelude.{Err, None, Ok, Option, Some, Result}
 use Prim.Native.Nat.{ℕ, ◌+◌, ◌-◌, ◌≤◌, ◌<◌}
 use mathlib.Core.Path.{◌≡◌, refl, sym, ap, ◌∙◌}
 use mathlib.Core.Logic.{◌↔◌}
@@ -19,30 +20,27 @@ use Rattle.zone.specs.Table.{Kind, flag, limit, time, digits, setpoint, Form, de
 use Rattle.zone.specs.Lists.{every, total}
 use Rattle.zone.specs.Figures.{Entry, group_of, made, entries_of, fits, each_in_range, opens, in_range}
 use Rattle.zone.proofs.Tests.{never}
-use Rattle.wire.specs.declared.Named.{Named}
-use Rattle.wire.specs.declared.Named.TheVariants.{Is, NoGroup}
-use Rattle.wire.specs.declared.Parsed.{Parsed}
-use Rattle.wire.specs.declared.Parsed.TheVariants.{Known, Unknown, Syntax}
-use Rattle.wire.specs.Road.{entry_bytes, in_order, figure_bytes, length_of, none, numbers_at, form_read, write_read, command_read}
+use Rattle.wire.specs.Road.{entry_bytes, in_order, figure_bytes, length_of, none, numbers_at, form_read, write_read, command_read, Parsed}
 use Rattle.wire.proofs.Choices.{by_cond}
 use Rattle.line.specs.declared.reading.Reading.{Reading}
 use Rattle.line.specs.Line.{digits_for, L, S, text_road, line_of, group_named, named_read, line_read}
 use Rattle.line.specs.Places.{Place, nowhere, offset, told, Expected, wrong_from, figures_expected, form_for, meets, expected_as, wrong_as, named_wrong, wrong_in, out_from, end_offset, out_of, named_expects, expected_in}
 use Rattle.line.specs.Rules.{SyntaxHasPlace, SyntaxPlaceWithin, RangeHasPlace, BehindSpace, RangePlaceWithin, EndPlaced, ExpectedThere}
-use Rattle.line.specs.Inner.{Walked, all, wrong, walk, read_by, form_walked}
+use Rattle.line.specs.Inner.{walk, made_by, form_walked, write_walked}
 use Rattle.line.proofs.DigitRule.{digits_length}
 use Rattle.line.proofs.Round.{line_only}
 use Rattle.line.proofs.PlaceLaws.{no_place, Walks, walks}
+use Rattle.wire.specs.declared.Misread.TheVariants.{Syntax, Unknown}
 
 -- ---- a syntax error has a place, and nothing else has
 
 abbrev Together : Parsed → Place → Type 0
-Together (Known c) nowhere = Unit {0}
-Together (Known c) (offset i) = ⊥
-Together Unknown nowhere = Unit {0}
-Together Unknown (offset i) = ⊥
-Together Syntax nowhere = ⊥
-Together Syntax (offset i) = Unit {0}
+Together (Ok c) nowhere = Unit {0}
+Together (Ok c) (offset i) = ⊥
+Together (Err Unknown) nowhere = Unit {0}
+Together (Err Unknown) (offset i) = ⊥
+Together (Err Syntax) nowhere = ⊥
+Together (Err Syntax) (offset i) = Unit {0}
 
 -- what the code reads, beside what the definitions say
 pub record Placed (r : Reading) (parsed : Parsed) (place : Place) : Type 0 where
@@ -50,21 +48,21 @@ pub record Placed (r : Reading) (parsed : Parsed) (place : Place) : Type 0 where
   pub together : Together parsed place
 
 -- a form that has not the line's length, or is found to have no numbers, is not read
-not_read : (form : Form) (l : List ℕ) → (length l ≡ length_of text_road form → numbers_at text_road (layout form).columns l 5 ≡ none) → cond (eqb (length l) (length_of text_road form)) (form_read text_road form l) Syntax ≡ Syntax
+not_read : (form : Form) (l : List ℕ) → (length l ≡ length_of text_road form → numbers_at text_road (layout form).columns l 5 ≡ none) → cond (eqb (length l) (length_of text_road form)) (form_read text_road form l) (Err Syntax) ≡ Err Syntax
 unfolding form_read
 not_read form l h = by_length (eqb (length l) (length_of text_road form)) refl
   where
-    by_length : (t : Bool) → eqb (length l) (length_of text_road form) ≡ t → cond t (form_read text_road form l) Syntax ≡ Syntax
+    by_length : (t : Bool) → eqb (length l) (length_of text_road form) ≡ t → cond t (form_read text_road form l) (Err Syntax) ≡ Err Syntax
     by_length true q = rw (h (eqb-true _ _ q))
     by_length false q = refl
 
-write_not : (g : Group) (l : List ℕ) → (length l ≡ length_of text_road (form_for g (length l)) → numbers_at text_road (layout (form_for g (length l))).columns l 5 ≡ none) → write_read text_road (forms_of g) l ≡ Syntax
+write_not : (g : Group) (l : List ℕ) → (length l ≡ length_of text_road (form_for g (length l)) → numbers_at text_road (layout (form_for g (length l))).columns l 5 ≡ none) → write_read text_road (forms_of g) l ≡ Err Syntax
 unfolding write_read
 write_not Ahue l h = by_window (ltb 19 (length l)) refl h
   where
     by_window : (t : Bool) → ltb 19 (length l) ≡ t
         → (length l ≡ length_of text_road (cond t window deadline) → numbers_at text_road (layout (cond t window deadline)).columns l 5 ≡ none)
-        → write_read text_road (forms_of Ahue) l ≡ Syntax
+        → write_read text_road (forms_of Ahue) l ≡ Err Syntax
     by_window true q h = rw (ne_eqb (length l) 19 (λ e. omega (arith, ltb-true 19 (length l) q, e))) (not_read window l h)
     by_window false q h = rw (ne_eqb (length l) 23 (λ e. omega (arith, ltb-false 19 (length l) q, e))) (not_read deadline l h)
 write_not Hzbg l h = not_read hzbg l h
@@ -84,18 +82,18 @@ write_all Rrue l e = rw (eq-eqb (length l) 15 e)
 write_all Solw l e = rw (eq-eqb (length l) 9 e)
 
 pub write_placed : (g : Group) (l : List ℕ) → 5 ≤ length l
-    → Placed (form_walked (form_for g (length l)) l) (write_read text_road (forms_of g) l) (wrong_from 5 (figures_expected (layout (form_for g (length l))).columns) (drop 5 l))
+    → Placed (write_walked (form_walked (form_for g (length l)) l)) (write_read text_road (forms_of g) l) (wrong_from 5 (figures_expected (layout (form_for g (length l))).columns) (drop 5 l))
 unfolding form_walked form_read
 write_placed g l h = by_walk (walk (layout (form_for g (length l))).columns l 5) (walks (layout (form_for g (length l))).columns l 5 h)
   where
     form : Form
     form = form_for g (length l)
 
-    by_walk : (w : Walked) → Walks (layout form).columns l 5 w → Placed (read_by form w) (write_read text_road (forms_of g) l) (wrong_from 5 (figures_expected (layout form).columns) (drop 5 l))
-    by_walk (all ns) k =
-        let e : write_read text_road (forms_of g) l ≡ Known (Write (made form ns)) = write_all g l k.2 ∙ rw k.1 in
+    by_walk : (w : Result (List ℕ) ℕ) → Walks (layout form).columns l 5 w → Placed (write_walked (made_by form w)) (write_read text_road (forms_of g) l) (wrong_from 5 (figures_expected (layout form).columns) (drop 5 l))
+    by_walk (Ok ns) k =
+        let e : write_read text_road (forms_of g) l ≡ Ok (Write (made form ns)) = write_all g l k.2 ∙ rw k.1 in
         rw (e, k.0) (record { reading = refl; together = tt })
-    by_walk (wrong i) k = rw (write_not g l k.1, k.0) (record { reading = refl; together = tt })
+    by_walk (Err i) k = rw (write_not g l k.1, k.0) (record { reading = refl; together = tt })
 
 -- a read: nothing is expected behind its five letters
 pub read_whole : (l : List ℕ) → length l ≡ 5 → wrong_from 5 [] (drop 5 l) ≡ nowhere
@@ -111,44 +109,44 @@ read_surplus l h u = rw (drop-cons l 5 0 (omega (arith, u)))
 as_together : (letter : ℕ) (g : Group) (l : List ℕ) → 5 ≤ length l → Together (command_read text_road letter g l) (wrong_as letter g l)
 as_together letter g l long = by_letter (eqb letter L) (eqb letter S)
   where
-    by_length : (t : Bool) → eqb (length l) 5 ≡ t → Together (cond t (Known (Read g)) Syntax) (wrong_from 5 [] (drop 5 l))
+    by_length : (t : Bool) → eqb (length l) 5 ≡ t → Together (cond t (Ok (Read g)) (Err Syntax)) (wrong_from 5 [] (drop 5 l))
     by_length true q = rw (read_whole l (eqb-true _ _ q)) tt
     by_length false q = rw (read_surplus l long (eqb-false _ _ q)) tt
 
     by_letter : (t u : Bool)
-        → Together (cond t (cond (eqb (length l) 5) (Known (Read g)) Syntax) (cond u (write_read text_road (forms_of g) l) Unknown))
+        → Together (cond t (cond (eqb (length l) 5) (Ok (Read g)) (Err Syntax)) (cond u (write_read text_road (forms_of g) l) (Err Unknown)))
         (cond (t || u) (wrong_from 5 (cond t [] (figures_expected (layout (form_for g (length l))).columns)) (drop 5 l)) nowhere)
     by_letter true u = by_length (eqb (length l) 5) refl
     by_letter false true = (write_placed g l long).together
     by_letter false false = tt
 
-named_together : (n : Named) (l : List ℕ) → 5 ≤ length l → Together (named_read n l) (named_wrong n l)
-named_together NoGroup l long = tt
-named_together (Is g) l long = as_together (get_or l 0 0) g l long
+named_together : (n : Option Group) (l : List ℕ) → 5 ≤ length l → Together (named_read n l) (named_wrong n l)
+named_together None l long = tt
+named_together (Some g) l long = as_together (get_or l 0 0) g l long
 
 together : (l : List ℕ) → Together (line_read l) (wrong_in l)
 unfolding line_read wrong_in
 together l = by_length (ltb (length l) 5) refl
   where
-    by_length : (t : Bool) → ltb (length l) 5 ≡ t → Together (cond t Unknown (named_read (group_named (take 4 (drop 1 l))) l)) (cond t nowhere (named_wrong (group_named (take 4 (drop 1 l))) l))
+    by_length : (t : Bool) → ltb (length l) 5 ≡ t → Together (cond t (Err Unknown) (named_read (group_named (take 4 (drop 1 l))) l)) (cond t nowhere (named_wrong (group_named (take 4 (drop 1 l))) l))
     by_length true q = tt
     by_length false q = named_together (group_named (take 4 (drop 1 l))) l (ltb-false _ _ q)
 
 pub syntax_has_place : SyntaxHasPlace
 syntax_has_place l = (to (line_read l) (wrong_in l) (together l), from (line_read l) (wrong_in l) (together l))
   where
-    to : (r : Parsed) (p : Place) → Together r p → r ≡ Syntax → (n : ℕ) × (p ≡ offset n)
-    to (Known c) p t e = absurd (let z : ◌≡◌ {A = ℕ} 0 1 = cc in omega arith)
-    to Unknown p t e = absurd (let z : ◌≡◌ {A = ℕ} 0 1 = cc in omega arith)
-    to Syntax nowhere t e = absurd t
-    to Syntax (offset n) t e = (n, refl)
+    to : (r : Parsed) (p : Place) → Together r p → r ≡ Err Syntax → (n : ℕ) × (p ≡ offset n)
+    to (Ok c) p t e = absurd (let z : ◌≡◌ {A = ℕ} 0 1 = cc in omega arith)
+    to (Err Unknown) p t e = absurd (let z : ◌≡◌ {A = ℕ} 0 1 = cc in omega arith)
+    to (Err Syntax) nowhere t e = absurd t
+    to (Err Syntax) (offset n) t e = (n, refl)
 
-    from : (r : Parsed) (p : Place) → Together r p → (n : ℕ) × (p ≡ offset n) → r ≡ Syntax
-    from (Known c) nowhere t e = no_place e.1
-    from (Known c) (offset n) t e = absurd t
-    from Unknown nowhere t e = no_place e.1
-    from Unknown (offset n) t e = absurd t
-    from Syntax p t e = refl
+    from : (r : Parsed) (p : Place) → Together r p → (n : ℕ) × (p ≡ offset n) → r ≡ Err Syntax
+    from (Ok c) nowhere t e = no_place e.1
+    from (Ok c) (offset n) t e = absurd t
+    from (Err Unknown) nowhere t e = no_place e.1
+    from (Err Unknown) (offset n) t e = absurd t
+    from (Err Syntax) p t e = refl
 
 -- ---- within the line, behind its five letters
 
@@ -167,9 +165,9 @@ behind_within es l n long e =
     let w = from_within 5 es (drop 5 l) n e in
     (w.0, omega (arith, w.1, length-drop 5 l))
 
-named_within : (g : Named) (l : List ℕ) (n : ℕ) → 5 ≤ length l → named_wrong g l ≡ offset n → (5 ≤ n) × (n ≤ length l)
-named_within NoGroup l n long e = no_place e
-named_within (Is g) l n long e =
+named_within : (g : Option Group) (l : List ℕ) (n : ℕ) → 5 ≤ length l → named_wrong g l ≡ offset n → (5 ≤ n) × (n ≤ length l)
+named_within None l n long e = no_place e
+named_within (Some g) l n long e =
     by_cond (eqb (get_or l 0 0) L || eqb (get_or l 0 0) S) e
     (λ t k. behind_within (expected_as (get_or l 0 0) g (length l)) l n long k)
     (λ t k. no_place k)
@@ -311,9 +309,9 @@ range_place_within l range figures n e o = rw (line_only l (Write figures) e).li
 
 -- ---- what is expected in a wrong line
 
-named_expected : (g : Named) (l : List ℕ) (n : ℕ) → named_wrong g l ≡ offset n → wrong_from 5 (named_expects g l) (drop 5 l) ≡ offset n
-named_expected NoGroup l n e = no_place e
-named_expected (Is g) l n e = by_cond (eqb (get_or l 0 0) L || eqb (get_or l 0 0) S) e (λ t k. k) (λ t k. no_place k)
+named_expected : (g : Option Group) (l : List ℕ) (n : ℕ) → named_wrong g l ≡ offset n → wrong_from 5 (named_expects g l) (drop 5 l) ≡ offset n
+named_expected None l n e = no_place e
+named_expected (Some g) l n e = by_cond (eqb (get_or l 0 0) L || eqb (get_or l 0 0) S) e (λ t k. k) (λ t k. no_place k)
 
 pub expected_there : ExpectedThere
 unfolding wrong_in expected_in

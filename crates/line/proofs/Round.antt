@@ -1,4 +1,5 @@
 -- A composed line, given back, is that command; and what is read as a command is exactly its line. Assumes nothing.
+use Rattle.std.specs.Prelude.{None, Ok, Option, Some}
 use Prim.Native.Nat.{ℕ, ◌+◌, ◌^◌, ◌≤◌, ◌<◌}
 use mathlib.Core.Path.{◌≡◌, refl, sym, ap, ◌∙◌}
 use mathlib.Core.Bool.{Bool, true, false}
@@ -15,10 +16,6 @@ use Rattle.zone.specs.declared.figures.Command.{Command}
 use Rattle.zone.specs.declared.figures.Command.TheVariants.{Read, Write}
 use Rattle.zone.specs.Table.{Kind, digits, name, every_group}
 use Rattle.zone.specs.Figures.{group_of}
-use Rattle.wire.specs.declared.Figure.TheVariants.{Value}
-use Rattle.wire.specs.declared.Named.{Named}
-use Rattle.wire.specs.declared.Named.TheVariants.{Is, NoGroup}
-use Rattle.wire.specs.declared.Parsed.TheVariants.{Known}
 use Rattle.wire.specs.Road.{carries_command, figure_bytes, command_read}
 use Rattle.wire.proofs.Choices.{by_cond, unknown_never, nothing_never}
 use Rattle.wire.proofs.Layouts.{Lawful, Stands, write_reads, read_reads, command_only}
@@ -33,7 +30,7 @@ line_lengths = refl
 
 -- ---- a single figure, there and back
 
-there : (k : Kind) (n : ℕ) (pre rest : List ℕ) → n < 10 ^ digits k → up_to_space rest ≡ [] → figure_of (pre ++ (32 ∷ (digits_for (digits k) n ++ rest))) (length pre) (digits k) ≡ Value n
+there : (k : Kind) (n : ℕ) (pre rest : List ℕ) → n < 10 ^ digits k → up_to_space rest ≡ [] → figure_of (pre ++ (32 ∷ (digits_for (digits k) n ++ rest))) (length pre) (digits k) ≡ Some n
 unfolding figure_of
 there k n pre rest small h =
     let w = digits k in
@@ -50,7 +47,7 @@ field_front (x ∷ xs) = by_space (eqb x 32) (field_front xs)
     by_space true e = refl
     by_space false e = ap (λ (r : List ℕ). x ∷ r) e
 
-back : (k : Kind) (n : ℕ) (l : List ℕ) (at : ℕ) → Unit {0} → at + (1 + digits k) ≤ length l → figure_of l at (digits k) ≡ Value n
+back : (k : Kind) (n : ℕ) (l : List ℕ) (at : ℕ) → Unit {0} → at + (1 + digits k) ≤ length l → figure_of l at (digits k) ≡ Some n
     → (drop at l ≡ 32 ∷ (digits_for (digits k) n ++ drop (at + (1 + digits k)) l)) × (n < 10 ^ digits k)
 unfolding figure_of
 back k n l at g h e = by_cond (eqb (get_or l at 0) 32) e space (λ t b. absurd (let z : ◌≡◌ {A = ℕ} 0 1 = cc in omega arith))
@@ -61,7 +58,7 @@ back k n l at g h e = by_cond (eqb (get_or l at 0) 32) e space (λ t b. absurd (
     rest : List ℕ
     rest = drop (at + 1) l
 
-    space : eqb (get_or l at 0) 32 ≡ true → digits_of w (up_to_space rest) ≡ Value n → (drop at l ≡ 32 ∷ (digits_for w n ++ drop (at + (1 + w)) l)) × (n < 10 ^ w)
+    space : eqb (get_or l at 0) 32 ≡ true → digits_of w (up_to_space rest) ≡ Some n → (drop at l ≡ 32 ∷ (digits_for w n ++ drop (at + (1 + w)) l)) × (n < 10 ^ w)
     space s d =
         let r = (digit_field w (up_to_space rest) n).0 d in
         let tail : rest ≡ digits_for w n ++ drop w rest = field_front rest ∙ rw (r.0, digits_length w n) in
@@ -106,7 +103,7 @@ head_length x Hzbg = refl
 head_length x Rrue = refl
 head_length x Solw = refl
 
-read_line : (g : Group) → line_read (L ∷ name g) ≡ Known (Read g)
+read_line : (g : Group) → line_read (L ∷ name g) ≡ Ok (Read g)
 read_line g =
     let bare : L ∷ (name g ++ []) ≡ L ∷ name g = ap (λ (t : List ℕ). L ∷ t) (append-nil (name g)) in
     ap line_read (sym bare) ∙ named_reads L g [] ∙ read_reads text_road lawful g (L ∷ (name g ++ [])) (ap length bare ∙ head_length L g)
@@ -129,7 +126,7 @@ same_true (x ∷ xs) (y ∷ ys) h =
     (λ e k. rw (eqb-true x y e, same_true xs ys k))
     (λ e k. absurd (let z : ◌≡◌ {A = ℕ} 0 1 = cc in omega arith))
 
-named_only : (gs : List Group) (l : List ℕ) (g : Group) → first_named gs l ≡ Is g → l ≡ name g
+named_only : (gs : List Group) (l : List ℕ) (g : Group) → first_named gs l ≡ Some g → l ≡ name g
 named_only [] l g h = nothing_never h
 named_only (x ∷ gs) l g h =
     by_cond (same l (name x)) h
@@ -148,10 +145,10 @@ stands_line l g (Read h) f s =
     record { line_is = f ∙ rw (s.0, s.1, bare, append-nil); carried = refl }
 stands_line l g (Write h) f s = record { line_is = f ∙ rw (s.0, s.2, ← s.1); carried = s.3 }
 
-named_line : (n : Named) (l : List ℕ) (c : Command) → 5 ≤ length l → group_named (take 4 (drop 1 l)) ≡ n → named_read n l ≡ Known c → ItsLine l c
+named_line : (n : Option Group) (l : List ℕ) (c : Command) → 5 ≤ length l → group_named (take 4 (drop 1 l)) ≡ n → named_read n l ≡ Ok c → ItsLine l c
 unfolding group_named lawful
-named_line NoGroup l c long e h = unknown_never h
-named_line (Is g) l c long e h =
+named_line None l c long e h = unknown_never h
+named_line (Some g) l c long e h =
     stands_line l g c (front l g long (named_only every_group (take 4 (drop 1 l)) g e)) (command_only text_road lawful (get_or l 0 0) g l c tt h)
 
 -- what is read as a command is exactly the line of that command, and the road carries its figures

@@ -1,7 +1,5 @@
 -- A field of a line, and the number that its digits make.
-use Rattle.std.specs.Prelude.{ℕ, ◌+◌, ◌-◌, ◌*◌, cond, List, [], ◌∷◌, length, get_or, drop, ltb, eqb}
-use Rattle.wire.specs.declared.Figure.{Figure}
-use Rattle.wire.specs.declared.Figure.TheVariants.{Value, Bad}
+use Rattle.std.specs.Prelude.{ℕ, ◌+◌, ◌-◌, ◌*◌, cond, List, [], ◌∷◌, length, get_or, drop, ltb, eqb, None, Option, Some}
 
 -- the bytes up to the first space, or all
 unfoldable pub up_to_space : List ℕ → List ℕ
@@ -13,14 +11,14 @@ abbrev pub field_of : List ℕ → ℕ → List ℕ
 field_of l at = up_to_space (drop (at + 1) l)
 
 -- digit by digit, behind a number n that was read so far; a byte that is no digit, 0 to 9, spoils it
-unfoldable pub digits_behind : ℕ → List ℕ → Figure
-digits_behind n [] = Value n
-digits_behind n (x ∷ xs) = cond (ltb x 48) Bad (cond (ltb 57 x) Bad (digits_behind (n * 10 + (x - 48)) xs))
+unfoldable pub digits_behind : ℕ → List ℕ → Option ℕ
+digits_behind n [] = Some n
+digits_behind n (x ∷ xs) = cond (ltb x 48) None (cond (ltb 57 x) None (digits_behind (n * 10 + (x - 48)) xs))
 
 -- a field of exactly `width` digits
-abbrev pub digits_of : ℕ → List ℕ → Figure
-digits_of width l = cond (eqb (length l) width) (digits_behind 0 l) Bad
+abbrev pub digits_of : ℕ → List ℕ → Option ℕ
+digits_of width l = cond (eqb (length l) width) (digits_behind 0 l) None
 
 -- "each figure after exactly one space": a space at `at`, and behind it a field of `width` digits
-unfoldable pub figure_of : List ℕ → ℕ → ℕ → Figure
-figure_of l at width = cond (eqb (get_or l at 0) 32) (digits_of width (field_of l at)) Bad
+unfoldable pub figure_of : List ℕ → ℕ → ℕ → Option ℕ
+figure_of l at width = cond (eqb (get_or l at 0) 32) (digits_of width (field_of l at)) None

@@ -1,17 +1,14 @@
 -- The line of a command, and the command of a line.
-use Rattle.std.specs.Prelude.{ℕ, zero, suc, ◌+◌, ◌/◌, ◌%◌, ◌^◌, Bool, true, false, cond, List, [], ◌∷◌, ◌++◌, length, get_or, take, drop, ltb, eqb}
+use Rattle.std.specs.Prelude.{ℕ, zero, suc, ◌+◌, ◌/◌, ◌%◌, ◌^◌, Bool, true, false, cond, List, [], ◌∷◌, ◌++◌, length, get_or, take, drop, ltb, eqb, Err, None, Option, Some}
 use Rattle.zone.specs.declared.figures.Group.{Group}
 use Rattle.zone.specs.declared.figures.Figures.{Figures}
 use Rattle.zone.specs.declared.figures.Command.{Command}
 use Rattle.zone.specs.declared.figures.Command.TheVariants.{Read, Write}
 use Rattle.zone.specs.Table.{digits, name, every_group}
 use Rattle.zone.specs.Figures.{group_of}
-use Rattle.wire.specs.declared.Named.{Named}
-use Rattle.wire.specs.declared.Named.TheVariants.{Is, NoGroup}
-use Rattle.wire.specs.declared.Parsed.{Parsed}
-use Rattle.wire.specs.declared.Parsed.TheVariants.{Unknown}
-use Rattle.wire.specs.Road.{Road, figure_bytes, command_read}
+use Rattle.wire.specs.Road.{Road, figure_bytes, command_read, Parsed}
 use Rattle.line.specs.Field.{figure_of}
+use Rattle.wire.specs.declared.Misread.TheVariants.{Unknown}
 
 -- the last `width` decimal digits of n, "with leading zeros"
 abbrev pub digits_for : ℕ → ℕ → List ℕ
@@ -58,17 +55,17 @@ same [] (y ∷ ys) = false
 same (x ∷ xs) [] = false
 same (x ∷ xs) (y ∷ ys) = cond (eqb x y) (same xs ys) false
 
-abbrev pub first_named : List Group → List ℕ → Named
-first_named [] l = NoGroup
-first_named (group ∷ groups) l = cond (same l (name group)) (Is group) (first_named groups l)
+abbrev pub first_named : List Group → List ℕ → Option Group
+first_named [] l = None
+first_named (group ∷ groups) l = cond (same l (name group)) (Some group) (first_named groups l)
 
-unfoldable pub group_named : List ℕ → Named
+unfoldable pub group_named : List ℕ → Option Group
 group_named l = first_named every_group l
 
-abbrev pub named_read : Named → List ℕ → Parsed
-named_read NoGroup l = Unknown
-named_read (Is group) l = command_read text_road (get_or l 0 0) group l
+abbrev pub named_read : Option Group → List ℕ → Parsed
+named_read None l = Err Unknown
+named_read (Some group) l = command_read text_road (get_or l 0 0) group l
 
 -- the name is the four bytes behind the letter; "a line under 5 bytes" is unknown
 unfoldable pub line_read : List ℕ → Parsed
-line_read l = cond (ltb (length l) 5) Unknown (named_read (group_named (take 4 (drop 1 l))) l)
+line_read l = cond (ltb (length l) 5) (Err Unknown) (named_read (group_named (take 4 (drop 1 l))) l)

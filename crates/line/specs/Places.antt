@@ -1,5 +1,5 @@
 -- Where a line is wrong: document 02, Req 04, "Say where the line is wrong", and of a window Req 06. An offset counts the line's bytes from 0.
-use Rattle.std.specs.Prelude.{ℕ, zero, suc, ◌+◌, ◌-◌, Bool, cond, ◌||◌, List, [], ◌∷◌, ◌++◌, length, get_or, take, drop, ltb, eqb}
+use Rattle.std.specs.Prelude.{ℕ, zero, suc, ◌+◌, ◌-◌, Bool, cond, ◌||◌, List, [], ◌∷◌, ◌++◌, length, get_or, take, drop, ltb, eqb, Err, None, Ok, Option, Some}
 use Rattle.zone.specs.declared.figures.Group.{Group}
 use Rattle.zone.specs.declared.figures.Group.TheVariants.{Ahue, Hzbg, Rrue, Solw}
 use Rattle.zone.specs.declared.figures.Figures.{Figures}
@@ -7,14 +7,11 @@ use Rattle.zone.specs.declared.figures.Command.TheVariants.{Read, Write}
 use Rattle.zone.specs.Lists.{within}
 use Rattle.zone.specs.Table.{time, Column, digits, Form, deadline, window, hzbg, rrue, solw, layout}
 use Rattle.zone.specs.Figures.{Entry, entries_of, fits, each_in_range, opens}
-use Rattle.wire.specs.declared.Named.{Named}
-use Rattle.wire.specs.declared.Named.TheVariants.{Is, NoGroup}
-use Rattle.wire.specs.declared.Parsed.{Parsed}
-use Rattle.wire.specs.declared.Parsed.TheVariants.{Known, Unknown, Syntax}
-use Rattle.wire.specs.Road.{length_of}
+use Rattle.wire.specs.Road.{length_of, Parsed}
 use Rattle.line.specs.declared.expecting.Expects.{Expects}
 use Rattle.line.specs.declared.expecting.Expects.TheVariants.{Space, Digit, Nothing}
 use Rattle.line.specs.Line.{L, S, text_road, group_named}
+use Rattle.wire.specs.declared.Misread.TheVariants.{Syntax, Unknown}
 
 -- nothing is wrong, or it is at that offset
 pub data Place : Type 0 where
@@ -71,9 +68,9 @@ expected_as letter group n = cond (eqb letter L) [] (figures_expected (layout (f
 abbrev pub wrong_as : ℕ → Group → List ℕ → Place
 wrong_as letter group l = cond (eqb letter L || eqb letter S) (wrong_from 5 (expected_as letter group (length l)) (drop 5 l)) nowhere
 
-abbrev pub named_wrong : Named → List ℕ → Place
-named_wrong NoGroup l = nowhere
-named_wrong (Is group) l = wrong_as (get_or l 0 0) group l
+abbrev pub named_wrong : Option Group → List ℕ → Place
+named_wrong None l = nowhere
+named_wrong (Some group) l = wrong_as (get_or l 0 0) group l
 
 -- where the line of a known command is wrong; a line of none has no such place
 unfoldable pub wrong_in : List ℕ → Place
@@ -96,10 +93,10 @@ out_of range figures = cond (each_in_range range figures) (cond (opens figures) 
 
 -- what is found of the figures of a line that was read; only a write has any
 abbrev pub of_figures : {A : Type 0} → (Figures → A) → A → Parsed → A
-of_figures found none (Known (Write figures)) = found figures
-of_figures found none (Known (Read group)) = none
-of_figures found none Unknown = none
-of_figures found none Syntax = none
+of_figures found none (Ok (Write figures)) = found figures
+of_figures found none (Ok (Read group)) = none
+of_figures found none (Err Unknown) = none
+of_figures found none (Err Syntax) = none
 
 abbrev pub out_in : ℕ → Parsed → Place
 out_in range parsed = of_figures (out_of range) nowhere parsed
@@ -113,9 +110,9 @@ expected_at (space ∷ es) zero = Space
 expected_at (digit ∷ es) zero = Digit
 expected_at (e ∷ es) (suc i) = expected_at es i
 
-abbrev pub named_expects : Named → List ℕ → List Expected
-named_expects NoGroup l = []
-named_expects (Is group) l = expected_as (get_or l 0 0) group (length l)
+abbrev pub named_expects : Option Group → List ℕ → List Expected
+named_expects None l = []
+named_expects (Some group) l = expected_as (get_or l 0 0) group (length l)
 
 -- what is expected in a line of a known command; its place was found by it (expected_there, in proofs/Placed.antt)
 unfoldable pub expected_in : List ℕ → List Expected

@@ -5,7 +5,6 @@ ghost use Rattle.line.specs.Line.{S};
 ghost use Rattle.line.specs.Places.{expected_as, expected_at, expected_in};
 
 use crate::reading::named;
-use wire::Named;
 use zone::Group;
 
 #[derive(Clone, Copy)]
@@ -53,11 +52,8 @@ pub fn expected(line: &[u8], i: usize) -> Expects
     if line.len() < 5 {
         return Expects::Nothing;
     }
-    let group = match named(&line[1..5]) {
-        Named::Is(g) => g,
-        Named::NoGroup => {
-            return Expects::Nothing;
-        }
+    let Some(group) = named(&line[1..5]) else {
+        return Expects::Nothing;
     };
     if line[0] == b'L' {
         return Expects::Nothing;

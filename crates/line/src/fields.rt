@@ -3,13 +3,6 @@ ghost use Rattle.std.specs.Prelude.{◌≡◌, ◌≤◌};
 ghost use Rattle.line.specs.Field.{field_of};
 ghost use Rattle.line.specs.Inner.{digits_read, figure_read};
 
-// What stands where digits should: the number that they make, or where they are wrong.
-#[derive(Clone, Copy)]
-pub enum Judged {
-    Value(u32),
-    Wrong(usize),
-}
-
 // The bytes between the space at `at` and the following one or the end.
 pub fn field(line: &[u8], at: usize) -> &[u8]
     ensures { result.now ≡ field_of line.now at }
@@ -18,57 +11,46 @@ pub fn field(line: &[u8], at: usize) -> &[u8]
         return &line[0..0];
     }
     let start = at + 1;
-    let mut end = start;
-    while end < line.len() {
+    for end in start..line.len() {
         if line[end] == b' ' {
             return &line[start..end];
         }
-        end += 1;
     }
-    &line[start..end]
+    &line[start..]
 }
 
 // The number that exactly `width` digits make, or the index of the first that is wrong: of a byte that is
 // no digit, of one too many, or the field's length where there are too few.
-pub fn digits(field: &[u8], width: usize) -> Judged
+pub fn digits(field: &[u8], width: usize) -> Result<u32, usize>
     requires { width ≤ 5 }
     ensures { result ≡ digits_read width field.now }
 {
     let mut value: u32 = 0;
-    let mut i = 0;
-    while i < field.len() {
+    for (i, d) in field.iter().enumerate() {
         if width <= i {
-            return Judged::Wrong(i);
+            return Err(i);
         }
-        let d = field[i];
-        if d < b'0' {
-            return Judged::Wrong(i);
+        if !d.is_ascii_digit() {
+            return Err(i);
         }
-        if b'9' < d {
-            return Judged::Wrong(i);
-        }
-        value = value * 10 + ((d - b'0') as u32);
-        i += 1;
+        value = value * 10 + u32::from(*d - b'0');
     }
-    if i < width {
-        return Judged::Wrong(i);
+    if field.len() < width {
+        return Err(field.len());
     }
-    Judged::Value(value)
+    Ok(value)
 }
 
 // The figure of `width` digits behind the space at `at`, or the line's offset of what is wrong.
-pub fn figure(line: &[u8], at: usize, width: usize) -> Judged
+pub fn figure(line: &[u8], at: usize, width: usize) -> Result<u32, usize>
     requires { (at ≤ 19) × (width ≤ 5) }
     ensures { result ≡ figure_read line.now at width }
 {
     if line.len() <= at {
-        return Judged::Wrong(at);
+        return Err(at);
     }
     if line[at] != b' ' {
-        return Judged::Wrong(at);
+        return Err(at);
     }
-    match digits(field(line, at), width) {
-        Judged::Value(value) => Judged::Value(value),
-        Judged::Wrong(i) => Judged::Wrong(at + 1 + i),
-    }
+    digits(field(line, at), width).map_err(|i| at + 1 + i)
 }

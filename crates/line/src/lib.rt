@@ -11,6 +11,6 @@ mod reading;
 mod writing;
 
 pub use expecting::{Expects, expected};
-pub use fields::{Judged, digits};
+pub use fields::digits;
 pub use reading::{Reading, out_at, read};
 pub use writing::{carries, put_figures, put_read};

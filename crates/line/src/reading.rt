@@ -1,13 +1,13 @@
 // A line read as a command, or found wrong at one of its bytes.
 ghost use Rattle.std.specs.Prelude.{◌≡◌, length};
 ghost use Rattle.zone.specs.Table.{Form};
-ghost use Rattle.line.specs.Inner.{watched_of, whole_of, form_walked};
+ghost use Rattle.line.specs.Inner.{watched_of, whole_of, form_walked, write_walked};
 ghost use Rattle.line.specs.Inner as steps;
-ghost use Rattle.line.specs.Line.{same, group_named, line_read};
+ghost use Rattle.line.specs.Line.{group_named, line_read};
 ghost use Rattle.line.specs.Places.{told, form_for, wrong_in, out_of, out_in};
 
-use crate::fields::{Judged, figure};
-use wire::{Named, Parsed};
+use crate::fields::figure;
+use wire::{Misread, Parsed};
 use zone::{
     Command, DeadlineFigures, Figures, Group, LimitFigures, ReferenceFigures, SetpointFigures,
     WindowFigures,
@@ -17,186 +17,119 @@ use zone::{
 #[derive(Clone, Copy)]
 pub struct Reading {
     pub parsed: Parsed,
+    // 0, and no Option: the answer to a line has it as a number (text_place of roads)
     pub place: usize,
 }
 
-// Two byte strings are the same.
-fn equal(x: &[u8], y: &[u8]) -> bool
-    ensures { result ≡ same x.now y.now }
-{
-    if x.len() != y.len() {
-        return false;
-    }
-    let mut i = 0;
-    while i < x.len() {
-        if x[i] != y[i] {
-            return false;
-        }
-        i += 1;
-    }
-    true
-}
-
-pub fn named(part: &[u8]) -> Named
+pub fn named(part: &[u8]) -> Option<Group>
     ensures { result ≡ group_named part.now }
 {
-    if equal(part, b"AHUE") {
-        return Named::Is(Group::Ahue);
+    if part == b"AHUE".as_slice() {
+        return Some(Group::Ahue);
     }
-    if equal(part, b"HZBG") {
-        return Named::Is(Group::Hzbg);
+    if part == b"HZBG".as_slice() {
+        return Some(Group::Hzbg);
     }
-    if equal(part, b"RRUE") {
-        return Named::Is(Group::Rrue);
+    if part == b"RRUE".as_slice() {
+        return Some(Group::Rrue);
     }
-    if equal(part, b"SOLW") {
-        return Named::Is(Group::Solw);
+    if part == b"SOLW".as_slice() {
+        return Some(Group::Solw);
     }
-    Named::NoGroup
+    None
 }
 
 // Flag, lower and upper limit, with which three of the rows begin; or where one of them is wrong.
-#[derive(Clone, Copy)]
-enum Limits {
-    Are(u32, u32, u32),
-    Wrong(usize),
-}
-
-fn watched(line: &[u8]) -> Limits
+#[tactic(auto, unfolding(crate::specs::Inner::watched_of))]
+fn watched(line: &[u8]) -> Result<(u32, u32, u32), usize>
     ensures { result ≡ watched_of line.now }
 {
-    let flag = match figure(line, 5, 1) {
-        Judged::Value(n) => n,
-        Judged::Wrong(i) => {
-            return Limits::Wrong(i);
-        }
-    };
-    let lower = match figure(line, 7, 3) {
-        Judged::Value(n) => n,
-        Judged::Wrong(i) => {
-            return Limits::Wrong(i);
-        }
-    };
-    let upper = match figure(line, 11, 3) {
-        Judged::Value(n) => n,
-        Judged::Wrong(i) => {
-            return Limits::Wrong(i);
-        }
-    };
-    Limits::Are(flag, lower, upper)
+    let flag = figure(line, 5, 1)?;
+    let lower = figure(line, 7, 3)?;
+    let upper = figure(line, 11, 3)?;
+    Ok((flag, lower, upper))
 }
 
-// A syntax error at that offset.
-fn misread(place: usize) -> Reading
-    ensures { result ≡ steps.misread place }
-{
-    Reading {
-        parsed: Parsed::Syntax,
-        place: place,
-    }
-}
-
-// The write of all figures of a row, if the line ends behind them; a row's line has that length.
-fn whole(line: &[u8], length: usize, figures: Figures) -> Reading
+// All figures of a row, if the line ends behind them; a row's line has that length.
+fn whole(line: &[u8], length: usize, figures: Figures) -> Result<Figures, usize>
     ensures { result ≡ whole_of line.now length figures }
 {
     if line.len() == length {
-        Reading {
-            parsed: Parsed::Known(Command::Write(figures)),
-            place: 0,
-        }
+        Ok(figures)
     } else {
-        misread(length)
+        Err(length)
     }
 }
 
-fn deadline(line: &[u8]) -> Reading
+#[tactic(auto, using(crate::proofs::Three::watched_wrong), unfolding(crate::specs::Inner::form_walked))]
+fn deadline(line: &[u8]) -> Result<Figures, usize>
     ensures { result ≡ form_walked Form.deadline line.now }
 {
-    match watched(line) {
-        Limits::Wrong(i) => misread(i),
-        Limits::Are(flag, lower, upper) => match figure(line, 15, 3) {
-            Judged::Wrong(i) => misread(i),
-            Judged::Value(time) => whole(
-                line,
-                19,
-                Figures::AhueDeadline(DeadlineFigures {
-                    flag: flag,
-                    lower: lower,
-                    upper: upper,
-                    time: time,
-                }),
-            ),
-        },
-    }
+    let (flag, lower, upper) = watched(line)?;
+    let time = figure(line, 15, 3)?;
+    whole(
+        line,
+        19,
+        Figures::AhueDeadline(DeadlineFigures {
+            flag,
+            lower,
+            upper,
+            time,
+        }),
+    )
 }
 
-fn window(line: &[u8]) -> Reading
+#[tactic(auto, using(crate::proofs::Three::watched_wrong), unfolding(crate::specs::Inner::form_walked))]
+fn window(line: &[u8]) -> Result<Figures, usize>
     ensures { result ≡ form_walked Form.window line.now }
 {
-    match watched(line) {
-        Limits::Wrong(i) => misread(i),
-        Limits::Are(flag, lower, upper) => match figure(line, 15, 3) {
-            Judged::Wrong(i) => misread(i),
-            Judged::Value(begin) => match figure(line, 19, 3) {
-                Judged::Wrong(i) => misread(i),
-                Judged::Value(end) => whole(
-                    line,
-                    23,
-                    Figures::AhueWindow(WindowFigures {
-                        flag: flag,
-                        lower: lower,
-                        upper: upper,
-                        begin: begin,
-                        end: end,
-                    }),
-                ),
-            },
-        },
-    }
+    let (flag, lower, upper) = watched(line)?;
+    let begin = figure(line, 15, 3)?;
+    let end = figure(line, 19, 3)?;
+    whole(
+        line,
+        23,
+        Figures::AhueWindow(WindowFigures {
+            flag,
+            lower,
+            upper,
+            begin,
+            end,
+        }),
+    )
 }
 
-fn heating_limit(line: &[u8]) -> Reading
+#[tactic(auto, unfolding(crate::specs::Inner::form_walked))]
+fn heating_limit(line: &[u8]) -> Result<Figures, usize>
     ensures { result ≡ form_walked Form.hzbg line.now }
 {
-    match figure(line, 5, 3) {
-        Judged::Wrong(i) => misread(i),
-        Judged::Value(time) => whole(line, 9, Figures::HzbgLimit(LimitFigures { time: time })),
-    }
+    let time = figure(line, 5, 3)?;
+    whole(line, 9, Figures::HzbgLimit(LimitFigures { time }))
 }
 
-fn reference(line: &[u8]) -> Reading
+#[tactic(auto, using(crate::proofs::Three::watched_wrong), unfolding(crate::specs::Inner::form_walked))]
+fn reference(line: &[u8]) -> Result<Figures, usize>
     ensures { result ≡ form_walked Form.rrue line.now }
 {
-    match watched(line) {
-        Limits::Wrong(i) => misread(i),
-        Limits::Are(flag, lower, upper) => whole(
-            line,
-            15,
-            Figures::RrueReference(ReferenceFigures {
-                flag: flag,
-                lower: lower,
-                upper: upper,
-            }),
-        ),
-    }
+    let (flag, lower, upper) = watched(line)?;
+    whole(
+        line,
+        15,
+        Figures::RrueReference(ReferenceFigures { flag, lower, upper }),
+    )
 }
 
-fn setpoint(line: &[u8]) -> Reading
+#[tactic(auto, unfolding(crate::specs::Inner::form_walked))]
+fn setpoint(line: &[u8]) -> Result<Figures, usize>
     ensures { result ≡ form_walked Form.solw line.now }
 {
-    match figure(line, 5, 3) {
-        Judged::Wrong(i) => misread(i),
-        Judged::Value(setpoint) => whole(
-            line,
-            9,
-            Figures::SolwSetpoint(SetpointFigures { setpoint: setpoint }),
-        ),
-    }
+    let setpoint = figure(line, 5, 3)?;
+    whole(line, 9, Figures::SolwSetpoint(SetpointFigures { setpoint }))
 }
 
-// A write: of AHUE's two forms the line's length says which it is read as.
-fn write(group: Group, line: &[u8]) -> Reading
+// The figures of a write, or where the line is wrong: of AHUE's two forms the line's length says which it
+// is read as.
+fn written(group: Group, line: &[u8]) -> Result<Figures, usize>
     ensures { result ≡ form_walked (form_for group (length line.now)) line.now }
 {
     match group {
@@ -217,9 +150,26 @@ fn write(group: Group, line: &[u8]) -> Reading
 fn found(parsed: Parsed) -> Reading
     ensures { result ≡ record { parsed = parsed; place = 0 } }
 {
+    Reading { parsed, place: 0 }
+}
+
+// A syntax error at that offset.
+fn misread(place: usize) -> Reading
+    ensures { result ≡ steps.misread place }
+{
     Reading {
-        parsed: parsed,
-        place: 0,
+        parsed: Err(Misread::Syntax),
+        place,
+    }
+}
+
+// A write: its figures, or a syntax error.
+fn write(group: Group, line: &[u8]) -> Reading
+    ensures { result ≡ write_walked (form_walked (form_for group (length line.now)) line.now) }
+{
+    match written(group, line) {
+        Ok(figures) => found(Ok(Command::Write(figures))),
+        Err(place) => misread(place),
     }
 }
 
@@ -228,25 +178,22 @@ pub fn read(line: &[u8]) -> Reading
     ensures { result ≡ record { parsed = line_read line.now; place = told (wrong_in line.now) } }
 {
     if line.len() < 5 {
-        return found(Parsed::Unknown);
+        return found(Err(Misread::Unknown));
     }
-    let group = match named(&line[1..5]) {
-        Named::Is(g) => g,
-        Named::NoGroup => {
-            return found(Parsed::Unknown);
-        }
+    let Some(group) = named(&line[1..5]) else {
+        return found(Err(Misread::Unknown));
     };
     let letter = line[0];
     match letter {
         b'L' => {
             if line.len() == 5 {
-                found(Parsed::Known(Command::Read(group)))
+                found(Ok(Command::Read(group)))
             } else {
                 misread(5)
             }
         }
         b'S' => write(group, line),
-        _ => found(Parsed::Unknown),
+        _ => found(Err(Misread::Unknown)),
     }
 }
 
@@ -282,11 +229,7 @@ pub fn out_at(parsed: Parsed, range: u32) -> usize
     ensures { result ≡ told (out_in range parsed) }
 {
     match parsed {
-        Parsed::Known(command) => match command {
-            Command::Write(figures) => first_out(figures, range),
-            Command::Read(_) => 0,
-        },
-        Parsed::Unknown => 0,
-        Parsed::Syntax => 0,
+        Ok(Command::Write(figures)) => first_out(figures, range),
+        Ok(Command::Read(_)) | Err(_) => 0,
     }
 }

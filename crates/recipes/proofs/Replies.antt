@@ -5,13 +5,13 @@ use mathlib.Core.List.{List, [], ◌∷◌, ◌++◌, map, append_assoc}
 use native.Mathlib.Omega.{arith}
 use native.Mathlib.Numerals.{add-one}
 use lib.ListN.{length, take, drop, set, get_or, replicate, length-append, length-map, take-append-drop, drop_of_length-le, get_or-map}
-use lib.Seq.{take_all, drop-drop, drop-cons, set_at, append_snoc, get_or-take, length-take-le, take-append-add, drop-append-add}
+use lib.Seq.{take_all, drop-drop, drop-cons, set_at, append_snoc, length-take-le, take-append-add, drop-append-add}
 use borrow.Rule.Slice.PartMut.{put_mid}
 use Rattle.zone.specs.declared.figures.Figures.{Figures}
 use Rattle.wire.specs.Room.{filled, placed, Filled}
 use Rattle.wire.proofs.Room.{lent_part}
 use Rattle.roads.proofs.Lengths.{text_fits}
-use Rattle.recipes.specs.declared.replying.Told.{Told}
+use Rattle.card.specs.declared.answers.Answer.{Answer}
 use Rattle.recipes.specs.Inner.{told, reply_of, replies_in, lengths_of}
 use Rattle.recipes.proofs.Parts.{part_behind}
 
@@ -99,16 +99,16 @@ module _ (all : List (ℕ × List Figures)) (room₀ room lengths : List ℕ) (k
         let room_after = put_part room reply part (32 * k) n (omega (arith, reply_fits)) f in
         rw (room_after, f.count) (record { replies = replies_on fits; measures = lengths_on })
 
--- ---- the same of the first `count` answers
+-- ---- the same of the answers
 
-module _ (answers : List Told) (count : ℕ) (w : count ≤ length answers) where
-  pub told_length : length (map told (take count answers)) ≡ count
-  told_length = length-map (take count answers) told ∙ length-take-le count answers w
-
-  pub ahead_turn : (room₀ room lengths part : List ℕ) (k n : ℕ) (d : Told) → k < count → count ≤ 64 → 32 * count ≤ length room
-      → Ahead (map told (take count answers)) room₀ room lengths k
+module _ (answers : List Answer) (few : length answers ≤ 64) where
+  pub ahead_turn : (room₀ room lengths part : List ℕ) (k n : ℕ) (d : Answer) → k < length answers → 32 * length answers ≤ length room
+      → Ahead (map told answers) room₀ room lengths k
       → Filled (reply_of (told (get_or answers k d))) (take (length room - 32 * k) (drop (32 * k) room)) part n
-      → Ahead (map told (take count answers)) room₀ (put_mid (32 * k) (length room - 32 * k) room part) (set lengths k n) (k + 1)
-  ahead_turn room₀ room lengths part k n d h few fits a f =
-      let one : get_or (map told (take count answers)) k (told d) ≡ told (get_or answers k d) = get_or-map told (take count answers) k d ∙ rw (get_or-take count answers k d h) in
-      ahead_more (map told (take count answers)) room₀ room lengths k a (told d) (rw told_length h) (rw told_length few) part n (omega arith) (rw one f)
+      → Ahead (map told answers) room₀ (put_mid (32 * k) (length room - 32 * k) room part) (set lengths k n) (k + 1)
+  ahead_turn room₀ room lengths part k n d h fits a f =
+      let long : length (map told answers) ≡ length answers = length-map answers told in
+      ahead_more (map told answers) room₀ room lengths k a (told d) (omega (arith, long)) (omega (arith, long)) part n (omega arith) (rw (get_or-map told answers k d) f)
+
+  pub ahead_over : (room₀ room lengths : List ℕ) → Ahead (map told answers) room₀ room lengths (length answers) → (room ≡ replies_in (map told answers) room₀) × (lengths ≡ lengths_of (map told answers))
+  ahead_over room₀ room lengths a = ahead_none (map told answers) room₀ room lengths (length answers) a (sym (length-map answers told))

@@ -1,4 +1,5 @@
 -- A line sent singly, to a sound record and with room of 32 bytes, comes to what is decided at its zone; and so for lines in turn. Assumes nothing.
+use Rattle.std.specs.Prelude.{Err, Ok}
 use Prim.Native.Nat.{ℕ, zero, suc, ◌+◌, ◌*◌, ◌≤◌}
 use mathlib.Core.Path.{◌≡◌, refl, ap, ◌∙◌}
 use mathlib.Core.Bool.{Bool, true, false, cond}
@@ -16,12 +17,12 @@ use Rattle.card.specs.Records.{zone_at, with_zone, sound, no_zone}
 use Rattle.card.specs.Calls.{apply_of}
 use Rattle.card.proofs.Inner.{same_zone}
 use Rattle.card.proofs.Kept.{apply_keeps}
-use Rattle.wire.specs.declared.Parsed.{Parsed}
-use Rattle.wire.specs.declared.Parsed.TheVariants.{Known, Unknown, Syntax}
 use Rattle.line.specs.Line.{line_read}
 use Rattle.roads.specs.Calls.{Answered, parsed_rows, port_rows, result_at, text_result, in_text_reply, answer_text, place_by, text_place}
 use Rattle.recipes.specs.Recipes.{Sending, Sent, in_turn, is_done, left_by, room_by, of_refused, one_more, refused_line}
 use Rattle.recipes.specs.Inner.{port_result, port_place, Trying, behind, try_from, reply_of, replies_in}
+use Rattle.wire.specs.declared.Misread.TheVariants.{Syntax, Unknown}
+use Rattle.wire.specs.Road.{Parsed}
 
 -- ---- one line
 
@@ -37,7 +38,7 @@ unfolding text_place
 port_place_lem r line lent s h = ap (λ (a : Answered). place_by a.said.number (zone_at r line.zone).range line.command) (port_answer r line lent s h)
 
 -- a known command is applied
-port_known : (r : Record) (n : ℕ) (line : List ℕ) (c : Command) → sound r ≡ true → line_read line ≡ Known c → result_at r n (port_rows r n line) (line_read line) ≡ apply_of r n c
+port_known : (r : Record) (n : ℕ) (line : List ℕ) (c : Command) → sound r ≡ true → line_read line ≡ Ok c → result_at r n (port_rows r n line) (line_read line) ≡ apply_of r n c
 unfolding apply_of
 port_known r n line c s e = rw (e, s)
 
@@ -51,12 +52,12 @@ port_stays r line s = by_parsed (line_read line.command) refl
     kept false = s
 
     by_parsed : (p : Parsed) → line_read line.command ≡ p → sound (port_result r line).after ≡ true
-    by_parsed (Known c) e = ap (λ (o : Result Record). sound o.after) (port_known r line.zone line.command c s e) ∙ (apply_keeps r line.zone c).stays s
-    by_parsed Unknown e = rw e (kept (is_zero (first (result_rows Unknown))))
+    by_parsed (Ok c) e = ap (λ (o : Result Record). sound o.after) (port_known r line.zone line.command c s e) ∙ (apply_keeps r line.zone c).stays s
+    by_parsed (Err Unknown) e = rw e (kept (is_zero (first (result_rows (Err Unknown)))))
       where
         result_rows : Parsed → List Row
         result_rows p = (no_zone r line.zone gives 3) ∷ parsed_rows (zone_at r line.zone) p
-    by_parsed Syntax e = rw e (kept (is_zero (first ((no_zone r line.zone gives 3) ∷ parsed_rows (zone_at r line.zone) Syntax))))
+    by_parsed (Err Syntax) e = rw e (kept (is_zero (first ((no_zone r line.zone gives 3) ∷ parsed_rows (zone_at r line.zone) (Err Syntax)))))
 
 -- ---- the lines in turn
 

@@ -1,92 +1,83 @@
--- One turn, and the end, of a loop over the lines of a recipe: what is gathered and the lines that are left make the whole. Assumes nothing.
-use Prim.Native.Nat.{ℕ, zero, suc, ◌+◌, ◌-◌, ◌≤◌, ◌<◌}
+-- One turn, and the end, of the loop over the lines of a recipe: what is gathered and the lines that are left make the whole. Assumes nothing.
+use Prim.Native.Nat.{ℕ, ◌+◌, ◌≤◌, ◌<◌}
 use mathlib.Core.Path.{◌≡◌, refl, sym, ap, ◌∙◌}
-use mathlib.Core.Bool.{Bool, true, false, not, ◌&&◌, ◌||◌, and_assoc, and-true}
+use mathlib.Core.Logic.{◌⊎◌, inl, inr}
+use mathlib.Core.Bool.{true, or-true}
 use mathlib.Core.List.{List, [], ◌∷◌, ◌++◌, map, map-append, append-nil}
 use native.Mathlib.Omega.{arith}
 use native.Mathlib.Numerals.{add-one}
-use lib.ListN.{length, take, drop, get_or, set, replicate, length-drop}
-use lib.Seq.{take-suc-set, append_snoc, get_or-set_same, get_or-set_other, length-take-le}
-use lib.Dec.{ltb, eqb}
-use borrow.Author.Tests.{lt-ltb, ltb-true, eqb-true, eqb-false}
+use lib.ListN.{length, take, set, length-set}
+use lib.Seq.{take-suc-set, append_snoc}
+use borrow.Author.Tests.{lt-ltb, le-ltb}
+use Rattle.std.specs.Result.{OnOk, IfErr}
+use Rattle.std.proofs.Common.{Result, Ok, Err}
+use Rattle.std.proofs.lemmas.Result.{on_ok_weaker}
 use Rattle.zone.specs.Lists.{some}
-use Rattle.zone.proofs.Tests.{never, neither}
-use Rattle.texts.specs.Texts.{Zoned, to, lacking, zoned}
-use Rattle.texts.proofs.Parts.{by_test}
-use Rattle.recipes.specs.declared.lines.Whom.{Whom}
+use Rattle.card.specs.declared.answers.Refusal.{Refusal}
+use Rattle.card.specs.declared.answers.Refusal.TheVariants.{NoRecipe}
+use Rattle.texts.specs.Texts.{to, lacking, zoned}
 use Rattle.recipes.specs.declared.lines.Cut.{Cut}
-use Rattle.recipes.specs.Recipes.{is_lacking, lacks, sending_in, sendings}
-use Rattle.recipes.specs.Inner.{sending_by, sending_at, whom_seen, cut_seen, nowhere, Within, one_of64}
-use Rattle.recipes.proofs.Parts.{part_behind}
+use Rattle.recipes.specs.Recipes.{lacks, sendings}
+use Rattle.recipes.specs.Inner.{cut_seen, ill_formed, CutOut}
 
--- ---- how many lines there are
+-- as long as the lines are well formed they are cut out, and stand in turn
+pub record Well (all rest : List (List ℕ)) (lines : ℕ) (cuts : List Cut) : Type 0 where
+  pub few : lines ≤ 64
+  pub none_lacks : some lacks rest ≡ some lacks all
+  pub cut : map cut_seen (take lines cuts) ++ sendings rest ≡ sendings all
 
-pub counted_more : (lines : ℕ) (all rest rest' : List (List ℕ)) (line : List ℕ) → rest ≡ line ∷ rest' → lines + length rest ≡ length all → lines + 1 + length rest' ≡ length all
-counted_more lines all rest rest' line e h = omega (arith, ap length e)
+-- and once they are not, all of them are not
+abbrev pub Ill : List (List ℕ) → Refusal → Type 0
+Ill all why = (why ≡ NoRecipe) × (ill_formed all ≡ true)
 
-pub counted_all : (lines : ℕ) (all rest : List (List ℕ)) → rest ≡ [] → lines + length rest ≡ length all → lines ≡ length all
-counted_all lines all rest e h = omega (arith, ap length e)
+pub record Ahead (all rest : List (List ℕ)) (lines : ℕ) (formed : Result Unit Refusal) (cuts : List Cut) : Type 0 where
+  pub counted : lines + length rest ≡ length all
+  pub places : length cuts ≡ 64
+  pub well : OnOk formed (Well all rest lines cuts)
+  pub ill : IfErr formed (Ill all)
 
--- ---- whether each has its zone and tab
+module _ (all rest rest' : List (List ℕ)) (line : List ℕ) (lines : ℕ) (formed : Result Unit Refusal) (cuts : List Cut) (a : Ahead all rest lines formed cuts) (e : rest ≡ line ∷ rest') where
+  -- one line more is cut out
+  pub ahead_cut : (cut : Cut) → zoned line ≡ to cut.zone cut.command.now → lines < 64 → Ahead all rest' (lines + 1) formed (set cuts lines cut)
+  ahead_cut cut z few = record {
+    counted = omega (arith, a.counted, ap length e);
+    places = length-set cuts lines cut ∙ a.places;
+    well = on_ok_weaker formed more a.well;
+    ill = a.ill;
+  }
+    where
+      more : Well all rest lines cuts → Well all rest' (lines + 1) (set cuts lines cut)
+      more w = record {
+        few = omega arith;
+        none_lacks = rw (e, z) at w.none_lacks;
+        cut =
+            rw (add-one lines, take-suc-set cuts lines cut (omega (arith, a.places)), map-append cut_seen (take lines cuts) (cut ∷ []), append_snoc (map cut_seen (take lines cuts)) (cut_seen cut) (sendings rest'))
+            (rw (e, z) at w.cut);
+      }
 
-not_either : (t u : Bool) → not (t || u) ≡ (not t && not u)
-not_either true u = refl
-not_either false u = refl
+  -- one is found that is too many, or that lacks its zone or its tab
+  pub ahead_ill : (64 ≤ lines) ⊎ (zoned line ≡ lacking) → Ahead all rest' (lines + 1) (Err NoRecipe) cuts
+  ahead_ill why = record { counted = omega (arith, a.counted, ap length e); places = a.places; well = tt; ill = (refl, by_formed formed a.well a.ill) }
+    where
+      by_formed : (f : Result Unit Refusal) → OnOk f (Well all rest lines cuts) → IfErr f (Ill all) → ill_formed all ≡ true
+      by_formed (Err w) well ill = ill.1
+      by_formed (Ok u) well ill =
+          elim why [
+            | inl many ↦ rw (lt-ltb 64 (length all) (omega (arith, a.counted, ap length e)))
+            | inr z ↦ rw (← well.none_lacks, e, z) (or-true _)
+          ]
 
-pub formed_more : (formed : Bool) (all rest rest' : List (List ℕ)) (line : List ℕ) → rest ≡ line ∷ rest' → (formed && not (some lacks rest)) ≡ not (some lacks all)
-    → ((formed && not (lacks line)) && not (some lacks rest')) ≡ not (some lacks all)
-formed_more formed all rest rest' line e h = rw (and_assoc formed (not (lacks line)) (not (some lacks rest')), ← not_either (lacks line) (some lacks rest')) (rw e at h)
+-- no line is left
+module _ (all : List (List ℕ)) (lines : ℕ) (formed : Result Unit Refusal) (cuts : List Cut) (a : Ahead all [] lines formed cuts) where
+  pub all_counted : lines ≡ length all
+  all_counted = omega (arith, a.counted)
 
-pub formed_all : (formed : Bool) (all rest : List (List ℕ)) → rest ≡ [] → (formed && not (some lacks rest)) ≡ not (some lacks all) → formed ≡ not (some lacks all)
-formed_all formed all rest e h = sym (and-true formed) ∙ (rw e at h)
-
--- ---- the lines as they were cut
-
--- a line that was cut out of the recipe is the line that was found there
-pub cut_sees : (recipe : List ℕ) (at end : ℕ) (w : Whom) → at ≤ end → end ≤ length recipe → w.start ≤ length (take (end - at) (drop at recipe))
-    → cut_seen recipe (record { zone = w.zone; start = at + w.start; end = end }) ≡ whom_seen (take (end - at) (drop at recipe)) w
-cut_sees recipe at end w h fits s =
-    let wide : length (take (end - at) (drop at recipe)) ≡ end - at = length-take-le (end - at) (drop at recipe) (rw length-drop (omega arith)) in
-    let n : end - (at + w.start) ≡ (end - at) - w.start = omega arith in
-    rw n (ap (λ (command : List ℕ). record { zone = w.zone; command = command }) (sym (part_behind recipe at (end - at) w.start (omega arith) (omega (arith, wide)))))
-
--- one line more among those that were cut, as long as there are 64 places
-pub cuts_more : (recipe : List ℕ) (cuts : List Cut) (lines k : ℕ) (cut : Cut) (all rest rest' : List (List ℕ)) (line : List ℕ) → rest ≡ line ∷ rest' → length cuts ≡ 64 → k ≡ one_of64 lines
-    → cut_seen recipe cut ≡ sending_at line
-    → (lines ≤ 64 → map (cut_seen recipe) (take lines cuts) ++ map sending_at rest ≡ map sending_at all)
-    → lines + 1 ≤ 64 → map (cut_seen recipe) (take (lines + 1) (set cuts k cut)) ++ map sending_at rest' ≡ map sending_at all
-cuts_more recipe cuts lines k cut all rest rest' line e l p sees before few =
-    let here : k ≡ lines = p ∙ rw (lt-ltb lines 64 (omega arith)) in
-    rw (here, add-one lines, take-suc-set cuts lines cut (omega arith), map-append (cut_seen recipe) (take lines cuts) (cut ∷ []), sees, append_snoc (map (cut_seen recipe) (take lines cuts)) (sending_at line) (map sending_at rest'))
-    (rw e at (before (omega arith)))
-
-pub cuts_all : (recipe : List ℕ) (cuts : List Cut) (lines : ℕ) (all rest : List (List ℕ)) → rest ≡ [] → map (cut_seen recipe) (take lines cuts) ++ map sending_at rest ≡ map sending_at all
-    → map (cut_seen recipe) (take lines cuts) ≡ map sending_at all
-cuts_all recipe cuts lines all rest e h = sym (append-nil (map (cut_seen recipe) (take lines cuts))) ∙ (rw e at h)
-
--- each stands within the recipe, those that are none yet too
-pub none_within : (n m k : ℕ) → Within n (get_or (replicate m nowhere) k nowhere)
-none_within n zero k = record { ordered = omega arith; inside = omega arith }
-none_within n (suc m) zero = record { ordered = omega arith; inside = omega arith }
-none_within n (suc m) (suc k) = none_within n m k
-
-pub more_within : (n : ℕ) (cuts : List Cut) (i : ℕ) (cut : Cut) → i < length cuts → Within n cut → ((k : ℕ) → Within n (get_or cuts k nowhere)) → (k : ℕ) → Within n (get_or (set cuts i cut) k nowhere)
-more_within n cuts i cut h w all k =
-    by_test (eqb k i)
-    (λ e. rw (eqb-true k i e, get_or-set_same cuts i cut nowhere h) w)
-    (λ e. rw (get_or-set_other cuts i k cut nowhere (eqb-false k i e)) (all k))
-
--- where none lacks its zone and tab, what they have to say is what is sent
-said_one : (z : Zoned) → is_lacking z ≡ false → sending_in z ≡ sending_by z ∷ []
-said_one (to zone command) h = refl
-said_one lacking h = never (sym h)
-
-pub said_all : (lines : List (List ℕ)) → some lacks lines ≡ false → map sending_at lines ≡ sendings lines
-said_all [] h = refl
-said_all (line ∷ lines) h =
-    let parts = neither (lacks line) (some lacks lines) h in
-    rw (said_one (zoned line) parts.0, said_all lines parts.1)
-
--- one of the 64 places
-pub slot_below : (n : ℕ) → one_of64 n < 64
-slot_below n = by_test (ltb n 64) (λ e. rw e (ltb-true n 64 e)) (λ e. rw e (omega arith))
+  pub cut_out : OnOk formed (CutOut all cuts)
+  cut_out = on_ok_weaker formed out a.well
+    where
+      out : Well all [] lines cuts → CutOut all cuts
+      out w = record {
+        formed = rw (le-ltb 64 (length all) (omega (arith, all_counted, w.few)), ← w.none_lacks);
+        places = a.places;
+        cut = rw (← all_counted) (sym (append-nil (map cut_seen (take lines cuts))) ∙ w.cut);
+      }

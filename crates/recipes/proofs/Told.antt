@@ -1,4 +1,5 @@
 -- What a recipe is answered: by its form, by its first refused line, or done. Assumes nothing.
+use Rattle.std.specs.Prelude.{Err, Ok}
 use Prim.Native.Nat.{ℕ, suc, ◌*◌, ◌≤◌}
 use mathlib.Core.Path.{◌≡◌, refl, sym, ap, ◌∙◌}
 use mathlib.Core.Logic.{◌⊎◌, inl, inr}
@@ -17,8 +18,6 @@ use Rattle.card.specs.Refusals.{Row, ◌gives◌, first}
 use Rattle.card.specs.Records.{zone_at, sound, no_zone}
 use Rattle.card.specs.Rules.{row_at, InOrder}
 use Rattle.card.proofs.Rows.{apart, exactly}
-use Rattle.wire.specs.declared.Parsed.{Parsed}
-use Rattle.wire.specs.declared.Parsed.TheVariants.{Known, Unknown, Syntax}
 use Rattle.line.specs.Line.{line_read}
 use Rattle.roads.specs.Calls.{said, parsed_rows, port_rows}
 use Rattle.texts.specs.Texts.{lines_of}
@@ -28,6 +27,8 @@ use Rattle.recipes.specs.Rules.{sent_singly, LoadExactly, LoadInOrder, FirstRefu
 use Rattle.recipes.specs.Inner.{port_result, port_place}
 use Rattle.recipes.proofs.Sent.{port_stays, sent_as, in_turn_next}
 use Rattle.recipes.proofs.Cases.{as_many}
+use Rattle.wire.specs.declared.Misread.TheVariants.{Syntax, Unknown}
+use Rattle.wire.specs.Road.{Parsed}
 
 -- ---- lines sent singly: each is done, or one is the first that is not
 
@@ -230,10 +231,10 @@ record Follows (rows : List Row) : Type 0 where
   order : InOrder ((true gives 1) ∷ (true gives 2) ∷ (true gives 14) ∷ rows) load_order
 
 port_follows : (t : Bool) (z : Zone) (p : Parsed) → Follows ((t gives 3) ∷ parsed_rows z p)
-port_follows t z (Known (Read g)) = record { new = refl; order = refl }
-port_follows t z (Known (Write f)) = record { new = refl; order = refl }
-port_follows t z Unknown = record { new = refl; order = refl }
-port_follows t z Syntax = record { new = refl; order = refl }
+port_follows t z (Ok (Read g)) = record { new = refl; order = refl }
+port_follows t z (Ok (Write f)) = record { new = refl; order = refl }
+port_follows t z (Err Unknown) = record { new = refl; order = refl }
+port_follows t z (Err Syntax) = record { new = refl; order = refl }
 
 follows : (r : Record) (lines : List Sending) (room : List ℕ) → Follows (of_refused (λ one. one.refusals) [] (in_turn r lines room))
 follows = by_rows Follows (record { new = refl; order = refl }) (λ r n command. port_follows (no_zone r n) (zone_at r n) (line_read command))

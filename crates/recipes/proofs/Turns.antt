@@ -2,29 +2,29 @@
 use Prim.Native.Nat.{ℕ, suc, ◌+◌, ◌<◌, ◌≤◌}
 use mathlib.Core.Path.{◌≡◌, refl, sym, ap, ◌∙◌}
 use mathlib.Core.Bool.{true}
-use mathlib.Core.List.{List, [], ◌∷◌, ◌++◌, map, append-nil, append_assoc}
+use mathlib.Core.List.{List, [], ◌∷◌, ◌++◌, map, map-append, append-nil, append_assoc}
 use native.Mathlib.Omega.{arith}
 use native.Mathlib.Numerals.{add-one}
 use lib.ListN.{length, take, drop, set, get_or, replicate, length-map, drop_of_length-le, get_or-map}
-use lib.Seq.{take-suc-set, drop-cons, get_or-take, length-take-le}
+use lib.Seq.{take-suc-set, drop-cons}
 use lib.Dec.{leb}
 use borrow.Author.Tests.{ne_eqb}
 use Rattle.zone.specs.declared.figures.Figures.{Figures}
 use Rattle.card.specs.declared.answers.Answer.{Answer}
-use Rattle.card.specs.declared.answers.Answer.TheVariants as answer
-use Rattle.card.specs.declared.judgements.Asked.{Asked}
+use Rattle.card.specs.declared.answers.Refusal.{Refusal}
+use Rattle.card.specs.declared.answers.Refusal.TheVariants.{NoRoom, NotSound, NoZone, NoFrame, NobodyHolds, Checksum, Unknown, Syntax, OutOfRange, Locked, AddressHeld, AlreadyPresent, Unreadable, NoRecipe, StillBooked, BadAmount, SameZone}
 use Rattle.card.specs.declared.judgements.Verdict.{Verdict}
+use Rattle.card.specs.declared.judgements.Verdict.TheVariants.{Refuses, Tells, Writes, Reports, Adds, Removes, Chooses, Rebooks}
 use Rattle.card.specs.declared.records.Record.{Record}
-use Rattle.card.specs.Answers.{Result, number_of, values_of}
+use Rattle.card.specs.Answers.{Result, refusal_number, number_of, values_of}
 use Rattle.card.specs.Records.{zone_at, with_zone, sound}
-use Rattle.card.specs.Inner.{answer_by, after_by, verdict_seen, judged, ask_at}
+use Rattle.card.specs.Inner.{answer_by, after_by, verdict_seen, judged, ask_at, Asked}
 use Rattle.line.specs.declared.reading.Reading.{Reading}
 use Rattle.roads.specs.Inner.{one_of_sixteen, asked_of, place_found}
 use Rattle.roads.proofs.Judged.{by_number, line_judged}
 use Rattle.recipes.specs.declared.lines.Cut.{Cut}
-use Rattle.recipes.specs.declared.replying.Told.{Told}
 use Rattle.recipes.specs.Recipes.{Sending}
-use Rattle.recipes.specs.Inner.{cut_seen, nowhere, reading_of, port_result, port_place, behind, try_from, told}
+use Rattle.recipes.specs.Inner.{cut_seen, reading_of, port_result, port_place, behind, try_from, told}
 use Rattle.recipes.proofs.Sent.{port_text, port_stays, tried, try_next}
 
 -- ---- one line
@@ -52,11 +52,39 @@ placed r line reading n number place e p k q =
     let three : number ≡ 3 = sym k ∙ port_none r line l in
     q ∙ rw (three, port_none r line l))
 
--- a refusal tells nothing
-pub untold : (a : Answer) → (number_of a ≡ 0 → ⊥) → values_of a ≡ []
-untold answer.Done u = refl
-untold (answer.Told figures) u = absurd (u refl)
-untold (answer.Refused why) u = refl
+-- a refusal is not 0
+pub refused_above : (why : Refusal) → 0 < refusal_number why
+refused_above why =
+    elim why as (λ w. 0 < refusal_number w) [
+      | NoRoom ↦ omega arith
+      | NotSound ↦ omega arith
+      | NoZone ↦ omega arith
+      | NoFrame ↦ omega arith
+      | NobodyHolds ↦ omega arith
+      | Checksum ↦ omega arith
+      | Unknown ↦ omega arith
+      | Syntax ↦ omega arith
+      | OutOfRange ↦ omega arith
+      | Locked ↦ omega arith
+      | AddressHeld ↦ omega arith
+      | AlreadyPresent ↦ omega arith
+      | Unreadable ↦ omega arith
+      | NoRecipe ↦ omega arith
+      | StillBooked ↦ omega arith
+      | BadAmount ↦ omega arith
+      | SameZone ↦ omega arith
+    ]
+
+-- a verdict that does not refuse is answered 0
+pub answers_zero : (v : Verdict) → ((why : Refusal) → v ≡ Refuses why → ⊥) → number_of (answer_by v) ≡ 0
+answers_zero (Refuses why) u = absurd (u why refl)
+answers_zero (Tells figures) u = refl
+answers_zero (Writes figures) u = refl
+answers_zero (Reports status) u = refl
+answers_zero (Adds address range) u = refl
+answers_zero Removes u = refl
+answers_zero (Chooses origin) u = refl
+answers_zero (Rebooks kilograms) u = refl
 
 -- ---- the lines before and after a turn
 
@@ -92,23 +120,11 @@ pub ahead_over : (given : Record) (all : List Sending) (r : Record) (done : List
 unfolding try_from
 ahead_over given all r done count a h = a.ahead ∙ rw (drop_of_length-le all h, append-nil done)
 
-pub cut_length : (recipe : List ℕ) (cuts : List Cut) (lines : ℕ) → lines ≤ length cuts → length (map (cut_seen recipe) (take lines cuts)) ≡ lines
-cut_length recipe cuts lines fits = length-map (take lines cuts) (cut_seen recipe) ∙ length-take-le lines cuts fits
-
 -- a line among those that were cut
-pub cut_next : (recipe : List ℕ) (cuts : List Cut) (lines count : ℕ) → count < lines → lines ≤ length cuts
-    → drop count (map (cut_seen recipe) (take lines cuts)) ≡ cut_seen recipe (get_or cuts count nowhere) ∷ drop (suc count) (map (cut_seen recipe) (take lines cuts))
-cut_next recipe cuts lines count h fits =
-    let all = map (cut_seen recipe) (take lines cuts) in
-    let long = cut_length recipe cuts lines fits in
-    let one : get_or all count (cut_seen recipe nowhere) ≡ cut_seen recipe (get_or cuts count nowhere) = get_or-map (cut_seen recipe) (take lines cuts) count nowhere ∙ rw (get_or-take lines cuts count nowhere h) in
-    drop-cons all count (cut_seen recipe nowhere) (omega (arith, long)) ∙ ap (λ (x : Sending). x ∷ drop (suc count) all) one
+pub cut_next : (cuts : List Cut) (k : ℕ) (d : Cut) → k < length cuts → drop k (map cut_seen cuts) ≡ cut_seen (get_or cuts k d) ∷ drop (suc k) (map cut_seen cuts)
+cut_next cuts k d h =
+    drop-cons (map cut_seen cuts) k (cut_seen d) (omega (arith, length-map cuts cut_seen)) ∙ ap (λ (x : Sending). x ∷ drop (suc k) (map cut_seen cuts)) (get_or-map cut_seen cuts k d)
 
 -- one answer more is kept
-pub told_more : (answers : List Told) (count : ℕ) (one : Told) (a : Answer) → one.answer ≡ a → count < length answers
-    → map told (take (count + 1) (set answers count one)) ≡ map told (take count answers) ++ ((number_of a, values_of a) ∷ [])
-told_more answers count one a e h = rw (add-one count, take-suc-set answers count one h, ← e) (map_snoc (take count answers))
-  where
-    map_snoc : (l : List Told) → map told (l ++ (one ∷ [])) ≡ map told l ++ (told one ∷ [])
-    map_snoc [] = refl
-    map_snoc (x ∷ l) = ap (λ (m : List (ℕ × List Figures)). told x ∷ m) (map_snoc l)
+pub told_more : (answers : List Answer) (k : ℕ) (a : Answer) → k < length answers → map told (take (k + 1) (set answers k a)) ≡ map told (take k answers) ++ (told a ∷ [])
+told_more answers k a h = rw (add-one k, take-suc-set answers k a h, map-append told (take k answers) (a ∷ []))

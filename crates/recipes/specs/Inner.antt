@@ -1,50 +1,27 @@
 -- What the functions on the way come to: lines as they are cut and tried, without a room, and the replies as they are put at the end. It is proved that this comes to what Recipes says; no promise of `load` cites it.
-use Rattle.std.specs.Prelude.{ℕ, suc, ◌-◌, ◌≤◌, cond, List, [], ◌∷◌, ◌++◌, map, length, take, drop, replicate, ltb}
+use Rattle.std.specs.Prelude.{ℕ, suc, ◌-◌, ◌≡◌, Bool, false, cond, ◌||◌, List, [], ◌∷◌, ◌++◌, map, length, take, drop, replicate, ltb}
 use Rattle.zone.specs.declared.figures.Figures.{Figures}
-use Rattle.zone.specs.Lists.{is_zero}
+use Rattle.zone.specs.Lists.{is_zero, some}
+use Rattle.card.specs.declared.answers.Answer.{Answer}
+use Rattle.card.specs.declared.answers.Refusal.{Refusal}
 use Rattle.card.specs.declared.records.Record.{Record}
-use Rattle.card.specs.Answers.{Result, number_of, values_of}
+use Rattle.card.specs.Answers.{Result, refusal_number, number_of, values_of}
 use Rattle.card.specs.Records.{zone_at}
 use Rattle.wire.specs.Room.{filled}
 use Rattle.line.specs.declared.reading.Reading.{Reading}
 use Rattle.line.specs.Line.{line_read}
 use Rattle.line.specs.Places as places
 use Rattle.roads.specs.Acknowledgements.{text_reply}
-use Rattle.roads.specs.Calls.{result_at, port_rows, place_by}
-use Rattle.texts.specs.Texts.{Zoned, to, lacking, zoned}
-use Rattle.recipes.specs.declared.loading.Trial.{Trial}
-use Rattle.recipes.specs.declared.lines.Whom.{Whom}
+use Rattle.roads.specs.Calls.{said, result_at, port_rows, place_by}
 use Rattle.recipes.specs.declared.lines.Cut.{Cut}
-use Rattle.recipes.specs.declared.replying.Told.{Told}
-use Rattle.recipes.specs.Recipes.{Sending}
+use Rattle.recipes.specs.declared.loading.Stopped.{Stopped}
+use Rattle.recipes.specs.Recipes.{lacks, Sending, sendings, Loading, refused_with}
 
 -- ---- one line
 
--- what a line has to say; one without its zone and tab nothing, to no zone
-abbrev pub sending_by : Zoned → Sending
-sending_by (to zone command) = record { zone = zone; command = command }
-sending_by lacking = record { zone = 16; command = [] }
-
-abbrev pub sending_at : List ℕ → Sending
-sending_at line = sending_by (zoned line)
-
-abbrev pub whom_seen : List ℕ → Whom → Sending
-whom_seen line w = record { zone = w.zone; command = drop w.start line }
-
--- a line as it was cut out of the recipe: `nowhere` is what stands in the array before
-abbrev pub cut_seen : List ℕ → Cut → Sending
-cut_seen recipe cut = record { zone = cut.zone; command = take (cut.end - cut.start) (drop cut.start recipe) }
-
-abbrev pub nowhere : Cut
-nowhere = record { zone = 0; start = 0; end = 0 }
-
-pub record Within (n : ℕ) (cut : Cut) : Type 0 where
-  pub ordered : cut.start ≤ cut.end
-  pub inside : cut.end ≤ n
-
--- one of the 64 places
-abbrev pub one_of64 : ℕ → ℕ
-one_of64 n = cond (ltb n 64) n 63
+-- a line as it was cut out of the recipe
+abbrev pub cut_seen : Cut → Sending
+cut_seen cut = record { zone = cut.zone; command = cut.command.now }
 
 -- what a command is read as
 abbrev pub reading_of : List ℕ → Reading
@@ -56,6 +33,18 @@ port_result r line = result_at r line.zone (port_rows r line.zone line.command) 
 
 abbrev pub port_place : Record → Sending → ℕ
 port_place r line = place_by (port_result r line).number (zone_at r line.zone).range line.command
+
+-- ---- the lines of a recipe
+
+-- too many, or one without its zone and tab
+abbrev pub ill_formed : List (List ℕ) → Bool
+ill_formed lines = ltb 64 (length lines) || some lacks lines
+
+-- each stands among the 64, in turn
+pub record CutOut (lines : List (List ℕ)) (cuts : List Cut) : Type 0 where
+  pub formed : ill_formed lines ≡ false
+  pub places : length cuts ≡ 64
+  pub cut : map cut_seen (take (length lines) cuts) ≡ sendings lines
 
 -- ---- the lines in turn
 
@@ -79,11 +68,32 @@ try_from k r (line ∷ lines) =
     cond (is_zero o.number) (behind ((o.number, o.values) ∷ []) (try_from (suc k) o.after lines))
     (record { number = o.number; line = suc k; place = port_place r line; done = []; after = r })
 
-abbrev pub told : Told → ℕ × List Figures
-told one = (number_of one.answer, values_of one.answer)
+abbrev pub told : Answer → ℕ × List Figures
+told answer = (number_of answer, values_of answer)
 
-abbrev pub trial_seen : Trial → Trying
-trial_seen o = record { number = number_of o.answer; line = o.line; place = o.place; done = map told (take o.count o.answers); after = o.after }
+-- all lines were done
+abbrev pub all_done : List (ℕ × List Figures) → Record → Trying
+all_done done r = record { number = 0; line = 0; place = 0; done = done; after = r }
+
+-- one was refused
+pub record StopsAs (t : Trying) (s : Stopped) : Type 0 where
+  pub number : t.number ≡ refusal_number s.why
+  pub line : t.line ≡ s.line
+  pub place : t.place ≡ s.place
+
+-- a refusal before any line is tried
+abbrev pub at_once : Refusal → Stopped
+at_once why = record { why = why; line = 0; place = 0 }
+
+-- ---- what the call comes to
+
+-- with these lengths, and with the record and the room as they then are
+abbrev pub stored_as : List ℕ → Record → List ℕ → Loading
+stored_as lengths r room = record { answered = record { said = said 0 [] [] room; after = r }; line = 0; place = 0; lengths = lengths }
+
+-- with the record and the room as they were
+abbrev pub refused_as : Stopped → Record → List ℕ → Loading
+refused_as s r room = refused_with r room (refusal_number s.why) s.line s.place
 
 -- ---- the replies
 

@@ -1,12 +1,11 @@
 // The call that loads a recipe.
-ghost use Rattle.std.specs.Prelude.{◌≡◌, true, [], map, ℕ, ◌≤◌, length, take, get_or, replicate};
-ghost use Rattle.card.specs.Answers.{values_of};
+ghost use Rattle.std.specs.Prelude.{◌≡◌, true, map, ◌≤◌, length, take, IfOk, IfErr, OnOk, OnErr};
 ghost use Rattle.card.specs.Records.{sound};
 ghost use Rattle.recipes.specs.Recipes.{loaded_seen, load_of};
-ghost use Rattle.recipes.specs.Inner.{cut_seen, nowhere, Within, try_from, trial_seen};
+ghost use Rattle.recipes.specs.Inner.{cut_seen, told, try_from, all_done, StopsAs, stored_as, refused_as, at_once};
 
 use crate::lines::{Cut, survey};
-use crate::replying::{Told, put_replies};
+use crate::replying::put_replies;
 use card::{Answer, Record, Refusal, Verdict, heard};
 use roads::{asked_of, one_of_sixteen, place_of};
 
@@ -15,127 +14,113 @@ use roads::{asked_of, one_of_sixteen, place_of};
 #[derive(Clone, Copy)]
 pub struct Loaded {
     pub answer: Answer,
+    // 0, and no Option, where no line is refused (loaded_seen)
     pub line: usize,
     pub place: usize,
     pub lengths: [usize; 64],
     pub after: Record,
 }
 
-// What came of trying the lines: how many were done, and what each was answered.
+// Why a recipe is refused, and the number of the line and the place in it, if a line is refused.
 #[derive(Clone, Copy)]
-struct Trial {
-    answer: Answer,
+struct Stopped {
+    why: Refusal,
     line: usize,
     place: usize,
-    count: usize,
-    answers: [Told; 64],
-    after: Record,
+}
+
+// A refusal before any line is tried.
+impl From<Refusal> for Stopped {
+    ghost from_gives = { λ why s. s ≡ at_once why };
+
+    fn from(why: Refusal) -> Stopped {
+        Stopped {
+            why,
+            line: 0,
+            place: 0,
+        }
+    }
 }
 
 // Tries the lines in turn, up to the first that is refused. The record stands in this loop, and each line
 // is judged at its zone alone: the record is sound, and a done line leaves it so.
-fn try_lines(given: Record, recipe: &[u8], lines: usize, cuts: [Cut; 64]) -> Trial
-    requires { (sound given ≡ true) × (lines ≤ 64) × (length cuts ≡ 64) × ((k : ℕ) → Within (length recipe.now) (get_or cuts k nowhere)) }
-    ensures result_value { trial_seen result ≡ try_from 0 given (map (cut_seen recipe.now) (take lines cuts)) }
-    ensures answer_value { (values_of result.answer ≡ []) × (result.count ≤ lines) }
+fn try_lines(r: &mut Record, cuts: &[Cut], answers: &mut [Answer; 64]) -> Result<(), Stopped>
+    requires { (sound r.old ≡ true) × (length cuts.now ≤ 64) }
+    ensures done { OnOk result (try_from 0 r.old (map cut_seen cuts.now) ≡ all_done (map told (take (length cuts.now) answers.new)) r.new) }
+    ensures stopped { IfErr result (StopsAs (try_from 0 r.old (map cut_seen cuts.now))) }
 {
-    let mut answers = [Told {
-        answer: Answer::Done,
-    }; 64];
-    let mut r = given;
-    let mut count: usize = 0;
-    while count < lines {
-        let cut = cuts[count];
-        let zone = cut.zone;
-        let start = cut.start;
-        let end = cut.end;
-        let reading = line::read(&recipe[start..end]);
-        let parsed = reading.parsed;
-        let n = one_of_sixteen(zone);
-        let z = r.zones[n];
-        let verdict = heard(z, asked_of(z, zone, parsed));
-        let answer = verdict.answer();
-        if answer.number() != 0 {
-            return Trial {
-                answer: answer,
-                line: count + 1,
-                place: place_of(answer, reading, z.range),
-                count: count,
-                answers: answers,
-                after: r,
-            };
-        }
-        // A line alters its zone by a write alone, but what `heard` promises does not say so. With the write
-        // told apart zone and answer are copied less often.
-        if let Verdict::Writes(figures) = verdict {
-            r.zones[n] = z.with_figures(figures);
-            answers[count] = Told {
-                answer: Answer::Done,
-            };
-        } else {
-            if verdict.alters() {
-                r.zones[n] = verdict.after(z);
+    for (k, cut) in cuts.iter().enumerate() {
+        let reading = line::read(cut.command);
+        let z = &mut r.zones[one_of_sixteen(cut.zone)];
+        let verdict = heard(*z, asked_of(*z, cut.zone, reading.parsed));
+        // A line alters its zone by a write alone, but what `heard` promises does not say so.
+        match verdict {
+            Verdict::Refuses(why) => {
+                return Err(Stopped {
+                    why,
+                    line: k + 1,
+                    place: place_of(Answer::Refused(why), reading, z.range),
+                });
             }
-            answers[count] = Told { answer: answer };
+            Verdict::Tells(figures) => answers[k] = Answer::Told(figures),
+            Verdict::Writes(figures) => {
+                *z = z.with_figures(figures);
+                answers[k] = Answer::Done;
+            }
+            _ => {
+                *z = verdict.after(*z);
+                answers[k] = verdict.answer();
+            }
         }
-        count += 1;
     }
-    Trial {
-        answer: Answer::Done,
-        line: 0,
-        place: 0,
-        count: count,
-        answers: answers,
-        after: r,
-    }
+    Ok(())
 }
 
-// The zones as they were before the first line.
-fn refused(given: Record, answer: Answer, line: usize, place: usize) -> Loaded
-    ensures { result ≡ record { answer = answer; line = line; place = place; lengths = replicate 64 0; after = given } }
+// Stores the lines and puts their replies, or tells why not: then the record is as the lines before left it, and
+// nothing is put.
+fn store(r: &mut Record, recipe: &[u8], room: &mut [u8]) -> Result<[usize; 64], Stopped>
+    ensures done { IfOk result (λ lengths. load_of r.old recipe.now room.old ≡ stored_as lengths r.new room.new) }
+    ensures stopped { IfErr result (λ s. load_of r.old recipe.now room.old ≡ refused_as s r.old room.old) }
+    ensures room_kept { OnErr result (room.new ≡ room.old) }
 {
-    Loaded {
-        answer: answer,
-        line: line,
-        place: place,
-        lengths: [0; 64],
-        after: given,
+    // The library uses no heap: lines and answers have 64 places each.
+    let mut cuts = [Cut {
+        zone: 0,
+        command: &recipe[..0],
+    }; 64];
+    let (lines, formed) = survey(recipe, &mut cuts);
+    if room.len() / 32 < lines {
+        return Err(Refusal::NoRoom.into());
     }
+    if !r.is_sound() {
+        return Err(Refusal::NotSound.into());
+    }
+    formed?;
+    let mut answers = [Answer::Done; 64];
+    try_lines(r, &cuts[..lines], &mut answers)?;
+    Ok(put_replies(&answers[..lines], room))
 }
 
 // Loads a recipe, whole or not at all.
 pub fn load(given: Record, recipe: &[u8], room: &mut [u8]) -> Loaded
     ensures { loaded_seen result room.new ≡ load_of given recipe.now room.old }
 {
-    let survey = survey(recipe);
-    let lines = survey.lines;
-    if room.len() / 32 < lines {
-        return refused(given, Answer::Refused(Refusal::NoRoom), 0, 0);
-    }
-    if !given.is_sound() {
-        return refused(given, Answer::Refused(Refusal::NotSound), 0, 0);
-    }
-    if 64 < lines {
-        return refused(given, Answer::Refused(Refusal::NoRecipe), 0, 0);
-    }
-    if !survey.formed {
-        return refused(given, Answer::Refused(Refusal::NoRecipe), 0, 0);
-    }
-    let cuts = survey.cuts;
-    let tried = try_lines(given, recipe, lines, cuts);
-    let answer = tried.answer;
-    if answer.number() != 0 {
-        return refused(given, answer, tried.line, tried.place);
-    }
-    let count = tried.count;
-    let answers = tried.answers;
-    let after = tried.after;
-    let lengths = put_replies(answers, count, room);
-    Loaded {
-        answer: Answer::Done,
-        line: 0,
-        place: 0,
-        lengths: lengths,
-        after: after,
+    let mut after = given;
+    match store(&mut after, recipe, room) {
+        Ok(lengths) => Loaded {
+            answer: Answer::Done,
+            line: 0,
+            place: 0,
+            lengths,
+            after,
+        },
+        // The zones as they were before the first line.
+        Err(stopped) => Loaded {
+            answer: Answer::Refused(stopped.why),
+            line: stopped.line,
+            place: stopped.place,
+            lengths: [0; 64],
+            after: given,
+        },
     }
 }

@@ -1,30 +1,19 @@
 // The replies to the lines of a recipe, the k-th at the start of the k-th 32 bytes of the room.
-ghost use Rattle.std.specs.Prelude.{◌≡◌, map, ◌*◌, ◌≤◌, length, take};
+ghost use Rattle.std.specs.Prelude.{◌≡◌, map, ◌*◌, ◌≤◌, length};
 ghost use Rattle.recipes.specs.Inner.{told, replies_in, lengths_of};
 
 use card::Answer;
 use roads::put_text;
 
-// What one line is answered.
-#[derive(Clone, Copy)]
-pub struct Told {
-    pub answer: Answer,
-}
-
-// Puts the replies to the first `count` lines into the room, and says how long each is.
-pub fn put_replies(answers: [Told; 64], count: usize, room: &mut [u8]) -> [usize; 64]
-    requires { (count ≤ 64) × (32 * count ≤ length room.old) }
-    ensures room_after { room.new ≡ replies_in (map told (take count answers)) room.old }
-    ensures value { result ≡ lengths_of (map told (take count answers)) }
+// Puts the replies to the lines into the room, and says how long each is.
+pub fn put_replies(answers: &[Answer], room: &mut [u8]) -> [usize; 64]
+    requires { (length answers.now ≤ 64) × (32 * length answers.now ≤ length room.old) }
+    ensures room_after { room.new ≡ replies_in (map told answers.now) room.old }
+    ensures value { result ≡ lengths_of (map told answers.now) }
 {
-    let mut lengths = [0usize; 64];
-    let mut k: usize = 0;
-    while k < count {
-        let one = answers[k];
-        let answer = one.answer;
-        let start = 32 * k;
-        lengths[k] = put_text(answer, &mut room[start..]);
-        k += 1;
+    let mut lengths = [0; 64];
+    for (k, answer) in answers.iter().enumerate() {
+        lengths[k] = put_text(*answer, &mut room[32 * k..]);
     }
     lengths
 }

@@ -1,4 +1,5 @@
 -- A command that a road carries, sent by it, comes to what applying the command comes to; and a done read is replied with the stored figures. Assumes nothing.
+use Rattle.std.specs.Prelude.{Ok}
 use Prim.Native.Nat.{ℕ, ◌≤◌, ◌<◌}
 use mathlib.Core.Path.{◌≡◌, refl, sym, ap, ◌∙◌}
 use mathlib.Core.Bool.{true}
@@ -9,7 +10,6 @@ use Rattle.zone.specs.declared.figures.Group.{Group}
 use Rattle.zone.specs.declared.figures.Command.{Command}
 use Rattle.zone.specs.declared.figures.Command.TheVariants.{Read}
 use Rattle.zone.specs.Zones.{figures_of}
-use Rattle.card.specs.declared.judgements.Asked.TheVariants as asked
 use Rattle.card.specs.declared.records.Record.{Record}
 use Rattle.card.specs.Answers.{Result}
 use Rattle.card.specs.Records.{zone_at, sound}
@@ -17,7 +17,6 @@ use Rattle.card.specs.Calls.{apply_of}
 use Rattle.card.specs.Inner.{ask_of}
 use Rattle.card.proofs.Finding.{find_own}
 use Rattle.card.proofs.Sets.{read_tells}
-use Rattle.wire.specs.declared.Parsed.TheVariants.{Known}
 use Rattle.wire.specs.Road.{carries_command}
 use Rattle.line.specs.Line.{A, line_with, line_of}
 use Rattle.line.proofs.Round.{line_reads}
@@ -29,7 +28,7 @@ use Rattle.roads.specs.Inner.{asked_by}
 use Rattle.roads.specs.Rules.{LineApplies, FrameApplies}
 use Rattle.roads.proofs.CallLaws.{asked_text, right_sum, held_right}
 
-ask_known : (r : Record) (n : ℕ) (c : Command) → ask_of r n (asked.Sent c) ≡ apply_of r n c
+ask_known : (r : Record) (n : ℕ) (c : Command) → ask_of r n (Ok c) ≡ apply_of r n c
 unfolding ask_of apply_of
 ask_known r n c = refl
 
@@ -39,7 +38,7 @@ text_applies r n c room h k = sym (asked_text r n (line_of c) room h) ∙ ap (λ
 pub frame_applies : FrameApplies
 frame_applies r n c room s p h k =
     let f = frame_of (zone_at r n).address c in
-    let q = right_sum f (zone_at r n).address (Known c) (frame_reads (zone_at r n).address c k) in
+    let q = right_sum f (zone_at r n).address (Ok c) (frame_reads (zone_at r n).address c k) in
     let found = ap (Rattle.card.specs.Records.find_of r) (sym q.2) ∙ find_own r n s p in
     sym (held_right r f room h q.0 n found q.1) ∙ ap (λ x. ask_of r n (asked_by x)) (sym q.3) ∙ ask_known r n c
 
@@ -61,6 +60,6 @@ module _ (r : Record) (n : ℕ) (g : Group) (room : List ℕ) (s : sound r ≡ t
       let a = (zone_at r n).address in
       let told = read_tells r n g s l p in
       let reply = framed (body_with a 0x00 (figures_of (zone_at r n) g)) in
-      let q = right_sum (frame_of a (Read g)) a (Known (Read g)) (frame_reads a (Read g) refl) in
+      let q = right_sum (frame_of a (Read g)) a (Ok (Read g)) (frame_reads a (Read g) refl) in
       ap (λ (o : Result Record). reply_in (in_frame_reply (Rattle.frame.specs.Frame.address_in (frame_of a (Read g))) o room).said) (frame_applies r n (Read g) room s p h refl)
       ∙ rw (← q.2, told.0, told.1) (take-append_seam reply (drop (length reply) room))

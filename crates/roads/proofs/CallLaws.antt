@@ -1,4 +1,5 @@
 -- How the functions of a call come to what the definition says. Assumes nothing.
+use Rattle.std.specs.Prelude.{Err, Ok, None, Option, Some}
 use Prim.Native.Nat.{ℕ, ◌≤◌, ◌<◌}
 use mathlib.Core.Path.{◌≡◌, refl, sym, ap, ◌∙◌}
 use mathlib.Core.Bool.{Bool, true, false, cond, not, ◌||◌}
@@ -10,18 +11,13 @@ use borrow.Author.Tests.{le-ltb, lt-leb, leb-false, eqb-true}
 use Rattle.card.specs.declared.answers.Refusal.{Refusal}
 use Rattle.card.specs.declared.answers.Refusal.TheVariants as refusal
 use Rattle.card.specs.declared.answers.Answer.{Answer}
-use Rattle.card.specs.declared.judgements.Asked.{Asked}
-use Rattle.card.specs.declared.judgements.Asked.TheVariants.{Failed}
 use Rattle.card.specs.declared.records.Record.{Record}
-use Rattle.card.specs.declared.records.Found.TheVariants.{At, Nowhere}
 use Rattle.card.specs.declared.records.Outcome.{Outcome}
 use Rattle.card.specs.Answers.{Result, number_of, values_of, outcome_seen}
 use Rattle.card.specs.Refusals.{◌gives◌, first, settled}
 use Rattle.card.specs.Records.{zone_at, with_zone, sound, find_of, no_zone}
-use Rattle.card.specs.Inner.{range_at, ask_of}
+use Rattle.card.specs.Inner.{range_at, ask_of, Asked}
 use Rattle.card.proofs.Finding.{found_there}
-use Rattle.wire.specs.declared.Parsed.{Parsed}
-use Rattle.wire.specs.declared.Parsed.TheVariants.{Known, Unknown, Syntax}
 use Rattle.wire.specs.Room.{Filled}
 use Rattle.wire.proofs.Choices.{by_cond}
 use Rattle.line.specs.Line.{line_read}
@@ -33,14 +29,16 @@ use Rattle.roads.specs.Acknowledgements.{text_reply, frame_reply}
 use Rattle.roads.specs.Calls.{replied_seen, too_small, parsed_rows, text_result, in_text_reply, answer_text, place_by, text_place, is_nowhere, zone_found, holder, result_at, frame_result, in_frame_reply, answer_frame}
 use Rattle.roads.specs.Inner.{asked_by, place_found, silent_of, frame_at}
 use Rattle.roads.proofs.Seen.{said_of}
+use Rattle.wire.specs.declared.Misread.TheVariants.{Syntax, Unknown}
+use Rattle.wire.specs.Road.{Parsed}
 
 -- ---- what a line or a body brings to a zone is judged by the rows 7, 8, 9, 10
 
 pub parsed_asked : (r : Record) (n : ℕ) (p : Parsed) → ask_of r n (asked_by p) ≡ result_at r n ((not (sound r) gives 2) ∷ (no_zone r n gives 3) ∷ parsed_rows (zone_at r n) p) p
 unfolding ask_of
-parsed_asked r n (Known c) = refl
-parsed_asked r n Unknown = refl
-parsed_asked r n Syntax = refl
+parsed_asked r n (Ok c) = refl
+parsed_asked r n (Err Unknown) = refl
+parsed_asked r n (Err Syntax) = refl
 
 -- ---- a line
 
@@ -125,7 +123,7 @@ shapeless r f room h s = rw (le-ltb (length room) 32 h, s) (by_sound (sound r))
 
 module _ (r : Record) (f room : List ℕ) (h : 32 ≤ length room) (s : shaped f ≡ true) where
   -- an address that nobody holds: 5, in silence, whatever the checksum
-  unheld : find_of r (address_in f) ≡ Nowhere → replied_seen (silent_of r refusal.NobodyHolds) room ≡ answer_frame r f room
+  unheld : find_of r (address_in f) ≡ None → replied_seen (silent_of r refusal.NobodyHolds) room ≡ answer_frame r f room
   unfolding answer_frame frame_reply
   unheld e = rw (le-ltb (length room) 32 h, s, e) (by_sound (sound r))
     where
@@ -135,7 +133,7 @@ module _ (r : Record) (f room : List ℕ) (h : 32 ≤ length room) (s : shaped f
       by_sound false = refl
 
   -- a held address: what the frame brings is asked of the zone that was found
-  pub held_sum : (n : ℕ) → find_of r (address_in f) ≡ At n → checksum_right f ≡ false → ask_of r n (Failed refusal.Checksum) ≡ frame_result r f room
+  pub held_sum : (n : ℕ) → find_of r (address_in f) ≡ Some n → checksum_right f ≡ false → ask_of r n (Err refusal.Checksum) ≡ frame_result r f room
   unfolding ask_of
   held_sum n e c = rw (le-ltb (length room) 32 h, s, e, c) (by_sound (sound r) refl)
     where
@@ -145,7 +143,7 @@ module _ (r : Record) (f room : List ℕ) (h : 32 ≤ length room) (s : shaped f
       by_sound true k = rw (found_there r (address_in f) n k e)
       by_sound false k = refl
 
-  pub held_right : (n : ℕ) → find_of r (address_in f) ≡ At n → checksum_right f ≡ true → ask_of r n (asked_by (body_read (body_in f))) ≡ frame_result r f room
+  pub held_right : (n : ℕ) → find_of r (address_in f) ≡ Some n → checksum_right f ≡ true → ask_of r n (asked_by (body_read (body_in f))) ≡ frame_result r f room
   held_right n e c = parsed_asked r n (body_read (body_in f)) ∙ by_sound (sound r) refl ∙ sym passed
     where
       -- past the tests that the frame passes: 1, 4, 5 and 6
@@ -167,14 +165,14 @@ module _ (r : Record) (f room : List ℕ) (h : 32 ≤ length room) (s : shaped f
       by_sound false k = refl
 
   -- so it is the call's answer
-  pub holder_answer : (what : Asked) → ((n : ℕ) → find_of r (address_in f) ≡ At n → ask_of r n what ≡ frame_result r f room) → frame_at r (address_in f) what room ≡ answer_frame r f room
+  pub holder_answer : (what : Asked) → ((n : ℕ) → find_of r (address_in f) ≡ Some n → ask_of r n what ≡ frame_result r f room) → frame_at r (address_in f) what room ≡ answer_frame r f room
   unfolding frame_at answer_frame
   holder_answer what asked = by_found (find_of r (address_in f)) refl
     where
-      by_found : (x : Rattle.card.specs.declared.records.Found.Found) → find_of r (address_in f) ≡ x
+      by_found : (x : Option ℕ) → find_of r (address_in f) ≡ x
           → Rattle.roads.specs.Inner.by_holder r (address_in f) what room x ≡ in_frame_reply (address_in f) (frame_result r f room) room
-      by_found Nowhere e = unheld e
-      by_found (At n) e = ap (λ (o : Result Record). in_frame_reply (address_in f) o room) (asked n e)
+      by_found None e = unheld e
+      by_found (Some n) e = ap (λ (o : Result Record). in_frame_reply (address_in f) o room) (asked n e)
 
 -- what was asked of a holder and replied, in the room, is the answer under that address
 pub frame_answer : (r : Record) (n a : ℕ) (what : Asked) (room room' : List ℕ) (k : ℕ) (o : Outcome)

@@ -1,4 +1,5 @@
 -- What is judged at the one zone that is looked at is what the call comes to on the record. Assumes nothing.
+use Rattle.std.specs.Prelude.{Err}
 use Prim.Native.Nat.{ℕ, ◌≤◌, ◌<◌}
 use mathlib.Core.Path.{◌≡◌, refl, sym, ap, ◌∙◌}
 use mathlib.Core.Bool.{Bool, true, false, cond, not}
@@ -10,7 +11,6 @@ use borrow.Author.Tests.{leb-true, leb-false, lt-ltb, le-ltb}
 use Rattle.zone.specs.declared.figures.Figures.{Figures}
 use Rattle.zone.specs.declared.zones.Zone.{Zone}
 use Rattle.card.specs.declared.answers.Refusal.TheVariants as refusal
-use Rattle.card.specs.declared.judgements.Asked.TheVariants.{Failed}
 use Rattle.card.specs.declared.judgements.Verdict.{Verdict}
 use Rattle.card.specs.declared.records.Record.{Record}
 use Rattle.card.specs.Answers.{Result, number_of, values_of}
@@ -19,11 +19,11 @@ use Rattle.card.specs.Records.{zone_at, with_zone, sound}
 use Rattle.card.specs.Calls.{Judgement, at_zone}
 use Rattle.card.specs.Inner.{answer_by, after_by, verdict_seen, judged, stored, ask_at, ask_of}
 use Rattle.card.proofs.Inner.{stored_settled}
-use Rattle.wire.specs.declared.Parsed.{Parsed}
 use Rattle.line.specs.Line.{line_read}
 use Rattle.roads.specs.Calls.{text_result}
 use Rattle.roads.specs.Inner.{asked_by, one_of_sixteen, unless, missing, asked_of}
 use Rattle.roads.proofs.CallLaws.{asked_text}
+use Rattle.wire.specs.Road.{Parsed}
 
 -- by whether the number names a zone: then it is that one
 pub by_number : (n : ℕ) (P : Type 0) → (n < 16 → leb 16 n ≡ false → one_of_sixteen n ≡ n → P) → (leb 16 n ≡ true → one_of_sixteen n ≡ 15 → P) → P
@@ -62,7 +62,7 @@ text_at r n parsed = zone_at_lem r n (λ z. ask_at z (asked_by parsed)) ∙ by_m
   where
     by_missing : (t s : Bool)
         → at r (one_of_sixteen n) (unless ((not s gives 2) ∷ (t gives 3) ∷ []) (ask_at (zone_at r (one_of_sixteen n)) (asked_by parsed)))
-        ≡ at r (one_of_sixteen n) (unless ((not s gives 2) ∷ []) (ask_at (zone_at r (one_of_sixteen n)) (cond t (Failed refusal.NoZone) (asked_by parsed))))
+        ≡ at r (one_of_sixteen n) (unless ((not s gives 2) ∷ []) (ask_at (zone_at r (one_of_sixteen n)) (cond t (Err refusal.NoZone) (asked_by parsed))))
     by_missing true true = refl
     by_missing true false = refl
     by_missing false true = refl

@@ -1,4 +1,5 @@
 -- How long a reply is: at most 32 bytes as a line, 16 as a frame, so that a room of 32 bytes holds it and keeps its length. Assumes nothing.
+use Rattle.std.specs.Prelude.{None, Option, Some}
 use Prim.Native.Nat.{ℕ, ◌≤◌}
 use mathlib.Core.Path.{◌≡◌}
 use mathlib.Core.Bool.{Bool, true, false, cond}
@@ -17,8 +18,6 @@ use Rattle.line.specs.Line.{A, S, line_with, line_of}
 use Rattle.frame.specs.Frame.{writing, body_with, framed, frame_of}
 use Rattle.roads.specs.declared.answering.Acknowledgement.{Acknowledgement}
 use Rattle.roads.specs.declared.answering.Acknowledgement.TheVariants.{Okay, CommandError, SyntaxError, CommandLock, TransferError}
-use Rattle.roads.specs.declared.answering.Reply.{Reply}
-use Rattle.roads.specs.declared.answering.Reply.TheVariants.{Nothing, Acknowledges}
 use Rattle.roads.specs.Acknowledgements.{text_of, function_of, reply_to, in_text, text_done, text_reply, in_frame, frame_done, frame_reply}
 
 -- whichever list a test picks
@@ -34,9 +33,9 @@ text_of_lem SyntaxError = omega arith
 text_of_lem CommandLock = omega arith
 text_of_lem TransferError = omega arith
 
-in_text_lem : (reply : Reply) → length (in_text reply) ≤ 32
-in_text_lem Nothing = omega arith
-in_text_lem (Acknowledges a) = text_of_lem a
+in_text_lem : (reply : Option Acknowledgement) → length (in_text reply) ≤ 32
+in_text_lem None = omega arith
+in_text_lem (Some a) = text_of_lem a
 
 line_with_lem : (letter : ℕ) (figures : Figures) → length (line_with letter figures) ≤ 32
 line_with_lem letter (AhueDeadline f) = omega arith
@@ -54,9 +53,9 @@ unfolding text_reply
 text_fits number values = either (is_zero number) (text_done values) (in_text (reply_to number)) 32 (text_done_lem values) (in_text_lem (reply_to number))
 
 -- a reply in a frame, and each of its bytes in two digits
-in_frame_lem : (address : ℕ) (reply : Reply) → length (in_frame address reply) ≤ 16
-in_frame_lem address Nothing = omega arith
-in_frame_lem address (Acknowledges a) = omega arith
+in_frame_lem : (address : ℕ) (reply : Option Acknowledgement) → length (in_frame address reply) ≤ 16
+in_frame_lem address None = omega arith
+in_frame_lem address (Some a) = omega arith
 
 frame_with : (address function : ℕ) (figures : Figures) → length (framed (body_with address function figures)) ≤ 16
 frame_with address function (AhueDeadline f) = omega arith

@@ -1,4 +1,5 @@
 -- What an answer of a road hangs on: soundness, and what decides at the zone that it goes to; and that no other zone is touched. Assumes nothing.
+use Rattle.std.specs.Prelude.{Err, Ok}
 use Prim.Native.Nat.{ℕ}
 use mathlib.Core.Path.{◌≡◌, refl, sym, ap, ◌∙◌}
 use mathlib.Core.Bool.{Bool, true, false, cond, not, ◌||◌}
@@ -18,27 +19,27 @@ use Rattle.card.specs.declared.records.Record.{Record}
 use Rattle.card.specs.Answers.{Result}
 use Rattle.card.specs.Refusals.{Row, ◌gives◌, first}
 use Rattle.card.specs.Records.{zone_at, with_zone, sound}
-use Rattle.wire.specs.declared.Parsed.{Parsed}
-use Rattle.wire.specs.declared.Parsed.TheVariants.{Known, Unknown, Syntax}
 use Rattle.line.specs.Line.{line_read}
 use Rattle.frame.specs.Frame.{shaped, body_in, address_in, checksum_right, body_read}
 use Rattle.roads.specs.Acknowledgements.{text_reply, frame_reply}
 use Rattle.roads.specs.Calls.{said, too_small, is_unknown, is_syntax, parsed_at, text_rows, text_result, in_text_reply, answer_text, place_by, text_place, is_nowhere, zone_found, holder, frame_rows, frame_result, in_frame_reply, answer_frame}
 use Rattle.roads.specs.Rules.{JudgesAlike, LineHangsOnItsZone, FrameHangsOnItsZone, LineTouchesItsZone, FrameTouchesItsZone}
+use Rattle.wire.specs.declared.Misread.TheVariants.{Syntax, Unknown}
+use Rattle.wire.specs.Road.{Parsed}
 
 -- ---- what two zones decide
 
 decided_rows : (z z' : Zone) (p : Parsed) → JudgesAlike z z' → (parsed_at z p).rows ≡ (parsed_at z' p).rows
-decided_rows z z' (Known (Read g)) j = refl
-decided_rows z z' (Known (Write f)) j = λ i. (not (in_range (j.range i) f) gives 9) ∷ (locks (j.state i) (group_of f) gives 10) ∷ []
-decided_rows z z' Unknown j = refl
-decided_rows z z' Syntax j = refl
+decided_rows z z' (Ok (Read g)) j = refl
+decided_rows z z' (Ok (Write f)) j = λ i. (not (in_range (j.range i) f) gives 9) ∷ (locks (j.state i) (group_of f) gives 10) ∷ []
+decided_rows z z' (Err Unknown) j = refl
+decided_rows z z' (Err Syntax) j = refl
 
-decided_values : (z z' : Zone) (p : Parsed) → ((g : Group) → p ≡ Known (Read g) → figures_of z g ≡ figures_of z' g) → (parsed_at z p).values ≡ (parsed_at z' p).values
-decided_values z z' (Known (Read g)) e = ap (λ (f : Figures). f ∷ []) (e g refl)
-decided_values z z' (Known (Write f)) e = refl
-decided_values z z' Unknown e = refl
-decided_values z z' Syntax e = refl
+decided_values : (z z' : Zone) (p : Parsed) → ((g : Group) → p ≡ Ok (Read g) → figures_of z g ≡ figures_of z' g) → (parsed_at z p).values ≡ (parsed_at z' p).values
+decided_values z z' (Ok (Read g)) e = ap (λ (f : Figures). f ∷ []) (e g refl)
+decided_values z z' (Ok (Write f)) e = refl
+decided_values z z' (Err Unknown) e = refl
+decided_values z z' (Err Syntax) e = refl
 
 -- ---- by the same refusals
 

@@ -1,4 +1,5 @@
 -- What the place of an answer says of its line. Assumes nothing.
+use Rattle.std.specs.Prelude.{Err, Ok}
 use Prim.Native.Nat.{ℕ, ◌≤◌, ◌<◌}
 use mathlib.Core.Path.{◌≡◌, refl, ap, ◌∙◌}
 use mathlib.Core.Bool.{Bool, true, false, cond, not}
@@ -14,14 +15,14 @@ use Rattle.zone.specs.Zones.{locks}
 use Rattle.card.specs.declared.records.Record.{Record}
 use Rattle.card.specs.Refusals.{first}
 use Rattle.card.specs.Records.{zone_at, sound, no_zone}
-use Rattle.wire.specs.declared.Parsed.{Parsed}
-use Rattle.wire.specs.declared.Parsed.TheVariants.{Known, Unknown, Syntax}
 use Rattle.line.specs.Line.{line_read}
 use Rattle.line.specs.Places.{told, offset, wrong_in, out_of, out_in}
 use Rattle.line.specs.Rules.{BehindSpace}
 use Rattle.line.proofs.Placed.{syntax_has_place, syntax_place_within, range_has_place, range_place_within}
 use Rattle.roads.specs.Calls.{too_small, parsed_rows, text_result, answer_text, place_by, text_place}
 use Rattle.roads.specs.Rules.{PlaceGiven, PlaceTold}
+use Rattle.wire.specs.declared.Misread.TheVariants.{Syntax, Unknown}
+use Rattle.wire.specs.Road.{Parsed}
 
 -- a number behind the rows of 1, 2 and 3
 behind_three : (a b c : Bool) (rest n : ℕ) → 3 < n → cond a 1 (cond b 2 (cond c 3 rest)) ≡ n → rest ≡ n
@@ -48,17 +49,17 @@ module _ (r : Record) (n : ℕ) (line room : List ℕ) where
   nine_of false false e = absurd (omega (arith, e))
 
   -- 8 is given to a syntax error alone, and 9 to a write whose figures are out of range
-  eight_read : (p : Parsed) → rest p ≡ 8 → p ≡ Syntax
-  eight_read (Known (Read g)) e = absurd (omega (arith, e))
-  eight_read (Known (Write f)) e = absurd (two (not (in_range (zone_at r n).range f)) (locks (zone_at r n).status.state (group_of f)) e)
-  eight_read Unknown e = absurd (omega (arith, e))
-  eight_read Syntax e = refl
+  eight_read : (p : Parsed) → rest p ≡ 8 → p ≡ Err Syntax
+  eight_read (Ok (Read g)) e = absurd (omega (arith, e))
+  eight_read (Ok (Write f)) e = absurd (two (not (in_range (zone_at r n).range f)) (locks (zone_at r n).status.state (group_of f)) e)
+  eight_read (Err Unknown) e = absurd (omega (arith, e))
+  eight_read (Err Syntax) e = refl
 
-  nine_read : (p : Parsed) → rest p ≡ 9 → (f : Figures) × (p ≡ Known (Write f)) × (in_range (zone_at r n).range f ≡ false)
-  nine_read (Known (Read g)) e = absurd (omega (arith, e))
-  nine_read (Known (Write f)) e = (f, refl, not-true _ (nine_of (not (in_range (zone_at r n).range f)) (locks (zone_at r n).status.state (group_of f)) e))
-  nine_read Unknown e = absurd (omega (arith, e))
-  nine_read Syntax e = absurd (omega (arith, e))
+  nine_read : (p : Parsed) → rest p ≡ 9 → (f : Figures) × (p ≡ Ok (Write f)) × (in_range (zone_at r n).range f ≡ false)
+  nine_read (Ok (Read g)) e = absurd (omega (arith, e))
+  nine_read (Ok (Write f)) e = (f, refl, not-true _ (nine_of (not (in_range (zone_at r n).range f)) (locks (zone_at r n).status.state (group_of f)) e))
+  nine_read (Err Unknown) e = absurd (omega (arith, e))
+  nine_read (Err Syntax) e = absurd (omega (arith, e))
 
 pub place_given : PlaceGiven
 unfolding text_place answer_text
@@ -77,7 +78,7 @@ place_given r n line room = record { eight = eight; nine = nine; others = others
         let q : place_by number range line ≡ p.0 = ap (λ (m : ℕ). place_by m range line) e ∙ ap told p.1 in
         rw q (p.1, w.0, w.1)
 
-    nine : number ≡ 9 → (figures : Figures) × (line_read line ≡ Known (Write figures)) × (out_of range figures ≡ offset (place_by number range line)) × BehindSpace line (place_by number range line)
+    nine : number ≡ 9 → (figures : Figures) × (line_read line ≡ Ok (Write figures)) × (out_of range figures ≡ offset (place_by number range line)) × BehindSpace line (place_by number range line)
     nine e =
         let k = nine_read r n line room (line_read line) (given r n line room 9 (omega arith) e) in
         let f = k.0 in
@@ -110,7 +111,7 @@ place_told r n line room p big s z = record { eight = eight; nine = nine }
         let given : number ≡ 8 = rw (le-ltb (length room) 32 big, s, z, is) in
         (given, ap (λ (m : ℕ). place_by m (zone_at r n).range line) given ∙ ap told e)
 
-    nine : (figures : Figures) → line_read line ≡ Known (Write figures) → out_of (zone_at r n).range figures ≡ offset p → (number ≡ 9) × (place_by number (zone_at r n).range line ≡ p)
+    nine : (figures : Figures) → line_read line ≡ Ok (Write figures) → out_of (zone_at r n).range figures ≡ offset p → (number ≡ 9) × (place_by number (zone_at r n).range line ≡ p)
     nine f is e =
         let out = (range_has_place (zone_at r n).range f).1 (p, e) in
         let given : number ≡ 9 = rw (le-ltb (length room) 32 big, s, z, is, out) in

@@ -1,4 +1,5 @@
 -- What the card composes it reads back: the bytes that a done composing left in the room are that command, with those figures. Assumes nothing.
+use Rattle.std.specs.Prelude.{Ok}
 use Prim.Native.Nat.{ℕ}
 use mathlib.Core.Path.{◌≡◌, ap, ◌∙◌}
 use mathlib.Core.Bool.{true, ◌&&◌}
@@ -9,7 +10,6 @@ use borrow.Author.Tests.{not-false}
 use Rattle.zone.specs.declared.figures.Command.{Command}
 use Rattle.zone.specs.Zones.{address_in_range}
 use Rattle.zone.proofs.Tests.{both}
-use Rattle.wire.specs.declared.Parsed.TheVariants.{Known}
 use Rattle.wire.specs.Road.{carries_command}
 use Rattle.line.specs.Line.{text_road, line_of, line_read}
 use Rattle.line.proofs.Round.{line_reads}
@@ -37,8 +37,8 @@ frame_carried a c room e =
     (both (address_in_range a) (carries_command frame_road c) carried).1
 
 -- the buyer's second demand: "Every command that the card composes, as line or frame, it reads back as that command with those figures"
-pub line_reads_back : (c : Command) (room : List ℕ) → (composed_line c room).number ≡ 0 → line_read (reply_in (composed_line c room)) ≡ Known c
+pub line_reads_back : (c : Command) (room : List ℕ) → (composed_line c room).number ≡ 0 → line_read (reply_in (composed_line c room)) ≡ Ok c
 line_reads_back c room e = ap line_read (line_composed c room e) ∙ line_reads c (line_carried c room e)
 
-pub frame_reads_back : (a : ℕ) (c : Command) (room : List ℕ) → (composed_frame a c room).number ≡ 0 → frame_read (reply_in (composed_frame a c room)) ≡ Request a (Known c)
+pub frame_reads_back : (a : ℕ) (c : Command) (room : List ℕ) → (composed_frame a c room).number ≡ 0 → frame_read (reply_in (composed_frame a c room)) ≡ Request a (Ok c)
 frame_reads_back a c room e = ap frame_read (frame_composed a c room e) ∙ frame_reads a c (frame_carried a c room e)

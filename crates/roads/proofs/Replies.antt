@@ -1,4 +1,5 @@
 -- Replies are commands again: what is stored, both roads carry, and a read reply made a write is the write of the stored figures. In each section the acknowledgements differ. Assumes nothing.
+use Rattle.std.specs.Prelude.{Ok}
 use Prim.Native.Nat.{ℕ, ◌-◌, ◌<◌}
 use mathlib.Core.Path.{◌≡◌, refl, sym, ap, ◌∙◌}
 use mathlib.Core.Bool.{Bool, true, false, cond, ◌||◌}
@@ -21,7 +22,6 @@ use Rattle.zone.proofs.Sound.{Fit, fits, in_range_parts}
 use Rattle.card.specs.declared.records.Record.{Record}
 use Rattle.card.specs.Records.{zone_at, sound}
 use Rattle.card.proofs.Storing.{zone_sound_lem}
-use Rattle.wire.specs.declared.Parsed.TheVariants.{Known}
 use Rattle.wire.specs.Road.{Road, carried, carries, carries_command}
 use Rattle.line.specs.Line.{A, S, text_road, line_with, line_of, line_read}
 use Rattle.line.proofs.Round.{line_reads}
@@ -102,14 +102,14 @@ read_reply f address = (refl, refl)
 -- "A read reply with A made S .. is the write command of its figures"
 pub text_reply_writes : (r : Record) (n : ℕ) (g : Group) → sound r ≡ true → (zone_at r n).present ≡ true
     → (set (line_with A (figures_of (zone_at r n) g)) 0 S ≡ line_of (Write (figures_of (zone_at r n) g)))
-    × (line_read (set (line_with A (figures_of (zone_at r n) g)) 0 S) ≡ Known (Write (figures_of (zone_at r n) g)))
+    × (line_read (set (line_with A (figures_of (zone_at r n) g)) 0 S) ≡ Ok (Write (figures_of (zone_at r n) g)))
 unfolding line_of carries_command
 text_reply_writes r n g s p = (refl, line_reads (Write (figures_of (zone_at r n) g)) (stored_both r n g s p).0)
 
 -- "or with 00 made 69 and a fresh checksum"
 pub frame_reply_writes : (r : Record) (n : ℕ) (g : Group) (address : ℕ) → sound r ≡ true → (zone_at r n).present ≡ true
     → (framed (set (body_with address 0x00 (figures_of (zone_at r n) g)) 1 0x69) ≡ frame_of address (Write (figures_of (zone_at r n) g)))
-    × (frame_read (framed (set (body_with address 0x00 (figures_of (zone_at r n) g)) 1 0x69)) ≡ Request address (Known (Write (figures_of (zone_at r n) g))))
+    × (frame_read (framed (set (body_with address 0x00 (figures_of (zone_at r n) g)) 1 0x69)) ≡ Request address (Ok (Write (figures_of (zone_at r n) g))))
 unfolding frame_of carries_command
 frame_reply_writes r n g address s p = (refl, frame_reads address (Write (figures_of (zone_at r n) g)) (stored_both r n g s p).1)
 

@@ -1,11 +1,9 @@
 -- What is answered on the wire: document 01's column "Reply", and the acknowledgements of sections 5.2 and 5.3 of source document 001, paired by their cause.
-use Rattle.std.specs.Prelude.{ℕ, cond, List, [], ◌∷◌, eqb}
+use Rattle.std.specs.Prelude.{ℕ, cond, List, [], ◌∷◌, eqb, None, Option, Some}
 use Rattle.zone.specs.declared.figures.Figures.{Figures}
 use Rattle.zone.specs.Lists.{is_zero, ascii}
 use Rattle.roads.specs.declared.answering.Acknowledgement.{Acknowledgement}
 use Rattle.roads.specs.declared.answering.Acknowledgement.TheVariants.{Okay, CommandError, SyntaxError, CommandLock, TransferError}
-use Rattle.roads.specs.declared.answering.Reply.{Reply}
-use Rattle.roads.specs.declared.answering.Reply.TheVariants.{Nothing, Acknowledges}
 use Rattle.line.specs.Line.{A, line_with}
 use Rattle.frame.specs.Frame.{body_with, framed, short_frame}
 
@@ -36,20 +34,20 @@ function_of CommandLock = 0x08
 function_of TransferError = 0x20
 
 -- "Reply", for the numbers of refusals; 9 is a "syntax error on the two roads, else none", and most have none
-abbrev pub reply_to : ℕ → Reply
+abbrev pub reply_to : ℕ → Option Acknowledgement
 reply_to number =
-    cond (eqb number 6) (Acknowledges TransferError)
-    (cond (eqb number 7) (Acknowledges CommandError)
-    (cond (eqb number 8) (Acknowledges SyntaxError)
-    (cond (eqb number 9) (Acknowledges SyntaxError)
-    (cond (eqb number 10) (Acknowledges CommandLock)
-    Nothing))))
+    cond (eqb number 6) (Some TransferError)
+    (cond (eqb number 7) (Some CommandError)
+    (cond (eqb number 8) (Some SyntaxError)
+    (cond (eqb number 9) (Some SyntaxError)
+    (cond (eqb number 10) (Some CommandLock)
+    None))))
 
 -- ---- the text road
 
-abbrev pub in_text : Reply → List ℕ
-in_text Nothing = []
-in_text (Acknowledges a) = text_of a
+abbrev pub in_text : Option Acknowledgement → List ℕ
+in_text None = []
+in_text (Some a) = text_of a
 
 abbrev pub text_refusal : ℕ → List ℕ
 text_refusal number = in_text (reply_to number)
@@ -64,9 +62,9 @@ text_reply number values = cond (is_zero number) (text_done values) (text_refusa
 
 -- ---- the frame road
 
-abbrev pub in_frame : ℕ → Reply → List ℕ
-in_frame address Nothing = []
-in_frame address (Acknowledges a) = short_frame address (function_of a)
+abbrev pub in_frame : ℕ → Option Acknowledgement → List ℕ
+in_frame address None = []
+in_frame address (Some a) = short_frame address (function_of a)
 
 abbrev pub frame_refusal : ℕ → ℕ → List ℕ
 frame_refusal address number = in_frame address (reply_to number)

@@ -1,5 +1,5 @@
 -- What each call of the two roads comes to, for every record, all bytes and every room. Its refusals stand in document 01's order.
-use Rattle.std.specs.Prelude.{ℕ, Bool, true, false, cond, not, ◌&&◌, List, [], ◌∷◌, ltb, eqb}
+use Rattle.std.specs.Prelude.{ℕ, Bool, true, false, cond, not, ◌&&◌, List, [], ◌∷◌, ltb, eqb, Err, Ok, None, Option, Some}
 use lib.ListN.{length, take}
 use Rattle.zone.specs.declared.figures.Figures.{Figures}
 use Rattle.zone.specs.declared.figures.Command.{Command}
@@ -7,15 +7,11 @@ use Rattle.zone.specs.declared.zones.Zone.{Zone}
 use Rattle.zone.specs.Lists.{is_zero}
 use Rattle.zone.specs.Zones.{address_in_range}
 use Rattle.card.specs.declared.records.Record.{Record}
-use Rattle.card.specs.declared.records.Found.{Found}
-use Rattle.card.specs.declared.records.Found.TheVariants.{At, Nowhere}
 use Rattle.card.specs.Answers.{Result, number_of, values_of}
 use Rattle.card.specs.Refusals.{Row, ◌gives◌, first, settled}
 use Rattle.card.specs.Records.{zone_at, with_zone, sound, find_of, no_zone}
 use Rattle.card.specs.Calls.{Judgement, command_at}
-use Rattle.wire.specs.declared.Parsed.{Parsed}
-use Rattle.wire.specs.declared.Parsed.TheVariants.{Known, Unknown, Syntax}
-use Rattle.wire.specs.Road.{carries_command}
+use Rattle.wire.specs.Road.{carries_command, Parsed}
 use Rattle.wire.specs.Room.{filled}
 use Rattle.line.specs.Line.{text_road, line_of, line_read}
 use Rattle.line.specs.Places.{told, wrong_in, out_in}
@@ -23,6 +19,7 @@ use Rattle.frame.specs.Frame.{frame_road, frame_of, shaped, body_in, address_in,
 use Rattle.roads.specs.declared.calls.Replied.{Replied}
 use Rattle.roads.specs.declared.composing.Composed.{Composed}
 use Rattle.roads.specs.Acknowledgements.{text_reply, frame_reply}
+use Rattle.wire.specs.declared.Misread.TheVariants.{Syntax, Unknown}
 
 -- what is answered: number and values, the length of the reply, and the room afterwards
 pub record Said : Type 0 where
@@ -55,21 +52,21 @@ too_small room = ltb (length room) 32
 
 -- "unknown function, first letter, name or index; a line under 5 bytes"
 abbrev pub is_unknown : Parsed → Bool
-is_unknown (Known command) = false
-is_unknown Unknown = true
-is_unknown Syntax = false
+is_unknown (Ok command) = false
+is_unknown (Err Unknown) = true
+is_unknown (Err Syntax) = false
 
 -- "known command, wrong length, spaces or digits"
 abbrev pub is_syntax : Parsed → Bool
-is_syntax (Known command) = false
-is_syntax Unknown = false
-is_syntax Syntax = true
+is_syntax (Ok command) = false
+is_syntax (Err Unknown) = false
+is_syntax (Err Syntax) = true
 
 -- a known command is judged by the zone: 9, 10
 abbrev pub parsed_at : Zone → Parsed → Judgement
-parsed_at z (Known command) = command_at z command
-parsed_at z Unknown = record { rows = []; values = []; after = z }
-parsed_at z Syntax = record { rows = []; values = []; after = z }
+parsed_at z (Ok command) = command_at z command
+parsed_at z (Err Unknown) = record { rows = []; values = []; after = z }
+parsed_at z (Err Syntax) = record { rows = []; values = []; after = z }
 
 -- 7, 8, 9, 10
 abbrev pub parsed_rows : Zone → Parsed → List Row
@@ -115,16 +112,16 @@ abbrev pub frame_order : List ℕ
 frame_order = 1 ∷ 2 ∷ 4 ∷ 5 ∷ 6 ∷ 7 ∷ 8 ∷ 9 ∷ 10 ∷ []
 
 -- "no present zone holds the address"
-abbrev pub is_nowhere : Found → Bool
-is_nowhere (At n) = false
-is_nowhere Nowhere = true
+abbrev pub is_nowhere : Option ℕ → Bool
+is_nowhere (Some n) = false
+is_nowhere None = true
 
 -- the zone that was found; 16, which is none, where nothing was
-abbrev pub zone_found : Found → ℕ
-zone_found (At n) = n
-zone_found Nowhere = 16
+abbrev pub zone_found : Option ℕ → ℕ
+zone_found (Some n) = n
+zone_found None = 16
 
-abbrev pub holder : Record → List ℕ → Found
+abbrev pub holder : Record → List ℕ → Option ℕ
 holder r frame = find_of r (address_in frame)
 
 -- as with a line: write_frame_order and frame_order_lem

@@ -1,29 +1,25 @@
 -- What the functions below the calls come to. No rule of document 01 stands here: the promises of the calls do not cite it.
-use Rattle.std.specs.Prelude.{ℕ, Bool, cond, not, ◌||◌, List, [], ◌∷◌, leb, ltb, eqb}
+use Rattle.std.specs.Prelude.{ℕ, Bool, cond, not, ◌||◌, List, [], ◌∷◌, leb, ltb, eqb, Err, Ok, None, Option, Some}
 use Rattle.zone.specs.declared.zones.Zone.{Zone}
 use Rattle.card.specs.declared.answers.Refusal.{Refusal}
 use Rattle.card.specs.declared.answers.Refusal.TheVariants as refusal
 use Rattle.card.specs.declared.answers.Answer.TheVariants as answer
-use Rattle.card.specs.declared.judgements.Asked.{Asked}
-use Rattle.card.specs.declared.judgements.Asked.TheVariants as asked
 use Rattle.card.specs.declared.records.Record.{Record}
-use Rattle.card.specs.declared.records.Found.{Found}
-use Rattle.card.specs.declared.records.Found.TheVariants.{At, Nowhere}
 use Rattle.card.specs.Refusals.{Row}
 use Rattle.card.specs.Records.{sound, find_of}
 use Rattle.card.specs.Calls.{Judgement}
-use Rattle.card.specs.Inner.{ask_of}
-use Rattle.wire.specs.declared.Parsed.{Parsed}
-use Rattle.wire.specs.declared.Parsed.TheVariants.{Known, Unknown, Syntax}
+use Rattle.card.specs.Inner.{ask_of, Asked}
 use Rattle.line.specs.declared.reading.Reading.{Reading}
 use Rattle.line.specs.Places.{told, out_in}
 use Rattle.roads.specs.declared.calls.Replied.{Replied}
 use Rattle.roads.specs.Calls.{Answered, replied_seen, in_frame_reply}
+use Rattle.wire.specs.declared.Misread.TheVariants.{Syntax, Unknown}
+use Rattle.wire.specs.Road.{Parsed}
 
 abbrev pub asked_by : Parsed → Asked
-asked_by (Known command) = asked.Sent command
-asked_by Unknown = asked.Failed refusal.Unknown
-asked_by Syntax = asked.Failed refusal.Syntax
+asked_by (Ok command) = Ok command
+asked_by (Err Unknown) = Err refusal.Unknown
+asked_by (Err Syntax) = Err refusal.Syntax
 
 -- ---- a line judged at its zone alone, where soundness has been tested for many
 
@@ -41,7 +37,7 @@ missing z n = leb 16 n || not z.present
 
 -- what a line to zone n brings to the zone that is looked at
 abbrev pub asked_of : Zone → ℕ → Parsed → Asked
-asked_of z n parsed = cond (missing z n) (asked.Failed refusal.NoZone) (asked_by parsed)
+asked_of z n parsed = cond (missing z n) (Err refusal.NoZone) (asked_by parsed)
 
 -- ---- on the way of the calls
 
@@ -56,9 +52,9 @@ silent_of r why = cond (sound r)
     (record { answer = answer.Refused refusal.NotSound; length = 0; place = 0; after = r })
 
 -- what a frame brings, by who was found to hold its address
-abbrev pub by_holder : Record → ℕ → Asked → List ℕ → Found → Answered
-by_holder r address what room Nowhere = replied_seen (silent_of r refusal.NobodyHolds) room
-by_holder r address what room (At n) = in_frame_reply address (ask_of r n what) room
+abbrev pub by_holder : Record → ℕ → Asked → List ℕ → Option ℕ → Answered
+by_holder r address what room None = replied_seen (silent_of r refusal.NobodyHolds) room
+by_holder r address what room (Some n) = in_frame_reply address (ask_of r n what) room
 
 unfoldable pub frame_at : Record → ℕ → Asked → List ℕ → Answered
 frame_at r address what room = by_holder r address what room (find_of r address)

@@ -1,5 +1,5 @@
 -- Rules of the calls that are proved of their definitions, besides those that the demands state. Above each stands where.
-use Rattle.std.specs.Prelude.{ℕ, ◌≤◌, ◌≡◌, true, false, List, length}
+use Rattle.std.specs.Prelude.{ℕ, ◌≤◌, ◌≡◌, true, false, List, length, Ok}
 use Rattle.zone.specs.declared.figures.Group.{Group}
 use Rattle.zone.specs.declared.figures.Figures.{Figures}
 use Rattle.zone.specs.declared.figures.Command.{Command}
@@ -9,7 +9,6 @@ use Rattle.zone.specs.Zones.{figures_of}
 use Rattle.card.specs.declared.records.Record.{Record}
 use Rattle.card.specs.Records.{zone_at, sound, no_zone}
 use Rattle.card.specs.Calls.{apply_of}
-use Rattle.wire.specs.declared.Parsed.TheVariants.{Known}
 use Rattle.wire.specs.Road.{carries_command}
 use Rattle.line.specs.Line.{text_road, line_of, line_read}
 use Rattle.line.specs.Places.{offset, wrong_in, out_of}
@@ -38,7 +37,7 @@ pub record JudgesAlike (z z' : Zone) : Type 0 where
 -- `text_local`, in proofs/Local.antt
 abbrev pub LineHangsOnItsZone : Type 0
 LineHangsOnItsZone = (r r' : Record) (n : ℕ) (line room : List ℕ) → sound r ≡ sound r' → JudgesAlike (zone_at r n) (zone_at r' n)
-    → ((answer_text r n line room).said.number ≡ 0 → (group : Group) → line_read line ≡ Known (Read group) → figures_of (zone_at r n) group ≡ figures_of (zone_at r' n) group)
+    → ((answer_text r n line room).said.number ≡ 0 → (group : Group) → line_read line ≡ Ok (Read group) → figures_of (zone_at r n) group ≡ figures_of (zone_at r' n) group)
     → ((answer_text r n line room).said ≡ (answer_text r' n line room).said) × (text_place r n line room ≡ text_place r' n line room)
 
 -- A frame's answer hangs on whether the record is sound and, where it is, on who holds its address, and on the same of that zone; where nobody does zone 16 stands for it, which is none of the sixteen. Bytes that are no frame have no address, and no zone is asked for them.
@@ -46,7 +45,7 @@ LineHangsOnItsZone = (r r' : Record) (n : ℕ) (line room : List ℕ) → sound 
 abbrev pub FrameHangsOnItsZone : Type 0
 FrameHangsOnItsZone = (r r' : Record) (bytes room : List ℕ) → sound r ≡ sound r'
     → (sound r ≡ true → shaped bytes ≡ true → (holder r bytes ≡ holder r' bytes) × JudgesAlike (zone_at r (zone_found (holder r bytes))) (zone_at r' (zone_found (holder r bytes))))
-    → ((answer_frame r bytes room).said.number ≡ 0 → (group : Group) → body_read (body_in bytes) ≡ Known (Read group)
+    → ((answer_frame r bytes room).said.number ≡ 0 → (group : Group) → body_read (body_in bytes) ≡ Ok (Read group)
     → figures_of (zone_at r (zone_found (holder r bytes))) group ≡ figures_of (zone_at r' (zone_found (holder r bytes))) group)
     → (answer_frame r bytes room).said ≡ (answer_frame r' bytes room).said
 
@@ -65,7 +64,7 @@ pub record PlaceWith (number place range : ℕ) (line : List ℕ) : Type 0 where
   -- 8: something is wrong there, behind the five letters and at the line's end at most
   pub eight : number ≡ 8 → (wrong_in line ≡ offset place) × (5 ≤ place) × (place ≤ length line)
   -- 9: the line is a write, and the first of its figures that is out of range, or the end of a window that does not open before it closes, starts there, behind a space and within the line
-  pub nine : number ≡ 9 → (figures : Figures) × (line_read line ≡ Known (Write figures)) × (out_of range figures ≡ offset place) × BehindSpace line place
+  pub nine : number ≡ 9 → (figures : Figures) × (line_read line ≡ Ok (Write figures)) × (out_of range figures ≡ offset place) × BehindSpace line place
   -- "all others 0"
   pub others : (number ≡ 8 → ⊥) → (number ≡ 9 → ⊥) → place ≡ 0
 
@@ -77,7 +76,7 @@ PlaceGiven = (r : Record) (n : ℕ) (line room : List ℕ) → PlaceWith (answer
 -- `place_told`, in proofs/PlaceGiven.antt
 pub record PlaceFor (r : Record) (n : ℕ) (line room : List ℕ) (p : ℕ) : Type 0 where
   pub eight : wrong_in line ≡ offset p → ((answer_text r n line room).said.number ≡ 8) × (text_place r n line room ≡ p)
-  pub nine : (figures : Figures) → line_read line ≡ Known (Write figures) → out_of (zone_at r n).range figures ≡ offset p → ((answer_text r n line room).said.number ≡ 9) × (text_place r n line room ≡ p)
+  pub nine : (figures : Figures) → line_read line ≡ Ok (Write figures) → out_of (zone_at r n).range figures ≡ offset p → ((answer_text r n line room).said.number ≡ 9) × (text_place r n line room ≡ p)
 
 abbrev pub PlaceTold : Type 0
 PlaceTold = (r : Record) (n : ℕ) (line room : List ℕ) (p : ℕ) → 32 ≤ length room → sound r ≡ true → no_zone r n ≡ false → PlaceFor r n line room p

@@ -6,68 +6,61 @@ ghost use Rattle.roads.specs.Acknowledgements.{text_of, function_of, reply_to, i
 
 use card::{Answer, Refusal};
 
-#[derive(Clone, Copy)]
+// The acknowledgements, with the function bytes that stand for them in a frame.
+#[derive(Clone, Copy, PartialEq, Eq)]
 pub enum Acknowledgement {
-    Okay,
-    CommandError,
-    SyntaxError,
-    CommandLock,
-    TransferError,
+    Okay = 0x00,
+    CommandError = 0x10,
+    SyntaxError = 0x80,
+    CommandLock = 0x08,
+    TransferError = 0x20,
 }
 
-// What a refusal is answered with on the wire.
-#[derive(Clone, Copy)]
-pub enum Reply {
-    Nothing,
-    Acknowledges(Acknowledgement),
-}
-
-fn reply_to(why: Refusal) -> Reply
+// What a refusal is answered with on the wire; most have no reply.
+fn reply_to(why: Refusal) -> Option<Acknowledgement>
     ensures { result ≡ reply_to (refusal_number why) }
 {
     match why {
-        Refusal::NoRoom => Reply::Nothing,
-        Refusal::NotSound => Reply::Nothing,
-        Refusal::NoZone => Reply::Nothing,
-        Refusal::NoFrame => Reply::Nothing,
-        Refusal::NobodyHolds => Reply::Nothing,
-        Refusal::Checksum => Reply::Acknowledges(Acknowledgement::TransferError),
-        Refusal::Unknown => Reply::Acknowledges(Acknowledgement::CommandError),
-        Refusal::Syntax => Reply::Acknowledges(Acknowledgement::SyntaxError),
-        Refusal::OutOfRange => Reply::Acknowledges(Acknowledgement::SyntaxError),
-        Refusal::Locked => Reply::Acknowledges(Acknowledgement::CommandLock),
-        Refusal::AddressHeld => Reply::Nothing,
-        Refusal::AlreadyPresent => Reply::Nothing,
-        Refusal::Unreadable => Reply::Nothing,
-        Refusal::NoRecipe => Reply::Nothing,
-        Refusal::StillBooked => Reply::Nothing,
-        Refusal::BadAmount => Reply::Nothing,
-        Refusal::SameZone => Reply::Nothing,
+        Refusal::Checksum => Some(Acknowledgement::TransferError),
+        Refusal::Unknown => Some(Acknowledgement::CommandError),
+        Refusal::Syntax | Refusal::OutOfRange => Some(Acknowledgement::SyntaxError),
+        Refusal::Locked => Some(Acknowledgement::CommandLock),
+        Refusal::NoRoom
+        | Refusal::NotSound
+        | Refusal::NoZone
+        | Refusal::NoFrame
+        | Refusal::NobodyHolds
+        | Refusal::AddressHeld
+        | Refusal::AlreadyPresent
+        | Refusal::Unreadable
+        | Refusal::NoRecipe
+        | Refusal::StillBooked
+        | Refusal::BadAmount
+        | Refusal::SameZone => None,
     }
 }
 
 // ---- the text road
 
-fn put_text_of(a: Acknowledgement, room: &mut [u8]) -> usize
-    requires { 32 ≤ length room.old }
-    ensures { Filled (text_of a) room.old room.new result }
+fn text_of(a: Acknowledgement) -> [u8; 5]
+    ensures { result ≡ text_of a }
 {
     match a {
-        Acknowledgement::Okay => wire::copy(b"QOK00", room),
-        Acknowledgement::CommandError => wire::copy(b"QFE01", room),
-        Acknowledgement::SyntaxError => wire::copy(b"QFE02", room),
-        Acknowledgement::CommandLock => wire::copy(b"QFE03", room),
-        Acknowledgement::TransferError => wire::copy(b"QFE04", room),
+        Acknowledgement::Okay => *b"QOK00",
+        Acknowledgement::CommandError => *b"QFE01",
+        Acknowledgement::SyntaxError => *b"QFE02",
+        Acknowledgement::CommandLock => *b"QFE03",
+        Acknowledgement::TransferError => *b"QFE04",
     }
 }
 
-fn put_in_text(reply: Reply, room: &mut [u8]) -> usize
+fn put_in_text(reply: Option<Acknowledgement>, room: &mut [u8]) -> usize
     requires { 32 ≤ length room.old }
     ensures { Filled (in_text reply) room.old room.new result }
 {
     match reply {
-        Reply::Nothing => 0,
-        Reply::Acknowledges(a) => put_text_of(a, room),
+        None => 0,
+        Some(a) => wire::copy(&text_of(a), room),
     }
 }
 
@@ -77,7 +70,7 @@ pub fn put_text(answer: Answer, room: &mut [u8]) -> usize
     ensures { Filled (text_reply (number_of answer) (values_of answer)) room.old room.new result }
 {
     match answer {
-        Answer::Done => put_text_of(Acknowledgement::Okay, room),
+        Answer::Done => put_in_text(Some(Acknowledgement::Okay), room),
         Answer::Told(figures) => line::put_figures(b'A', figures, room),
         Answer::Refused(why) => put_in_text(reply_to(why), room),
     }
@@ -88,22 +81,16 @@ pub fn put_text(answer: Answer, room: &mut [u8]) -> usize
 fn function_of(a: Acknowledgement) -> u8
     ensures { result ≡ function_of a }
 {
-    match a {
-        Acknowledgement::Okay => 0x00,
-        Acknowledgement::CommandError => 0x10,
-        Acknowledgement::SyntaxError => 0x80,
-        Acknowledgement::CommandLock => 0x08,
-        Acknowledgement::TransferError => 0x20,
-    }
+    a as u8
 }
 
-fn put_in_frame(address: u8, reply: Reply, room: &mut [u8]) -> usize
+fn put_in_frame(address: u8, reply: Option<Acknowledgement>, room: &mut [u8]) -> usize
     requires { 32 ≤ length room.old }
     ensures { Filled (in_frame address reply) room.old room.new result }
 {
     match reply {
-        Reply::Nothing => 0,
-        Reply::Acknowledges(a) => frame::put_short(address, function_of(a), room),
+        None => 0,
+        Some(a) => frame::put_short(address, function_of(a), room),
     }
 }
 
@@ -113,7 +100,7 @@ pub fn put_frame(address: u8, answer: Answer, room: &mut [u8]) -> usize
     ensures { Filled (frame_reply address (number_of answer) (values_of answer)) room.old room.new result }
 {
     match answer {
-        Answer::Done => frame::put_short(address, 0x00, room),
+        Answer::Done => put_in_frame(address, Some(Acknowledgement::Okay), room),
         Answer::Told(figures) => frame::put_figures(address, 0x00, figures, room),
         Answer::Refused(why) => put_in_frame(address, reply_to(why), room),
     }

@@ -25,7 +25,7 @@ fn done(length: usize) -> Composed
 {
     Composed {
         answer: Answer::Done,
-        length: length,
+        length,
     }
 }
 
@@ -57,10 +57,7 @@ pub fn compose_frame(address: u32, command: Command, room: &mut [u8]) -> Compose
     if room.len() < 32 {
         return refused(Refusal::NoRoom);
     }
-    if address < 1 {
-        return refused(Refusal::OutOfRange);
-    }
-    if 254 < address {
+    if address < 1 || 254 < address {
         return refused(Refusal::OutOfRange);
     }
     let byte = address as u8;

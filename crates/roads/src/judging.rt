@@ -3,15 +3,15 @@ ghost use Rattle.std.specs.Prelude.{◌≡◌};
 ghost use Rattle.roads.specs.Inner.{one_of_sixteen, missing, asked_of};
 
 use crate::calls::asked;
-use card::{Asked, Refusal};
+use card::Refusal;
 use wire::Parsed;
-use zone::Zone;
+use zone::{Command, Zone};
 
 // The zone that is looked at for number n: that one or, where n names none, the last.
 pub fn one_of_sixteen(n: usize) -> usize
     ensures { result ≡ one_of_sixteen n }
 {
-    if n < 16 { n } else { 15 }
+    n.min(15)
 }
 
 // The number names no zone, or an absent one.
@@ -22,11 +22,11 @@ pub fn is_missing(z: Zone, zone: usize) -> bool
 }
 
 // What a line brings, where its number names a present zone.
-pub fn asked_of(z: Zone, zone: usize, parsed: Parsed) -> Asked
+pub fn asked_of(z: Zone, zone: usize, parsed: Parsed) -> Result<Command, Refusal>
     ensures { result ≡ asked_of z zone parsed }
 {
     if is_missing(z, zone) {
-        return Asked::Failed(Refusal::NoZone);
+        return Err(Refusal::NoZone);
     }
     asked(parsed)
 }

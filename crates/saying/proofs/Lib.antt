@@ -1,4 +1,4 @@
-pub mod Growing
+pub mod Wrote
 pub mod Told
 pub mod Long
 pub mod Recipe

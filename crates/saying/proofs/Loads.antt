@@ -1,4 +1,5 @@
 -- What came of loading a recipe is in the bounds that `say_loaded` asks for, whatever was loaded. Assumes nothing.
+use Rattle.std.specs.Prelude.{Err, None, Ok, Option, Some}
 use Prim.Native.Nat.{ℕ, zero, suc, ◌+◌, ◌-◌, ◌*◌, ◌≤◌}
 use mathlib.Core.Path.{◌≡◌, refl, ap}
 use mathlib.Core.Bool.{Bool, true, false, cond, not, ◌||◌}
@@ -16,10 +17,6 @@ use Rattle.zone.specs.Inner.{five_fit}
 use Rattle.zone.proofs.Tests.{neither}
 use Rattle.card.specs.declared.records.Record.{Record}
 use Rattle.card.specs.Records.{zone_at, sound}
-use Rattle.wire.specs.declared.Named.{Named}
-use Rattle.wire.specs.declared.Named.TheVariants.{Is, NoGroup}
-use Rattle.wire.specs.declared.Parsed.{Parsed}
-use Rattle.wire.specs.declared.Parsed.TheVariants.{Known, Unknown, Syntax}
 use Rattle.line.specs.Line.{L, S, group_named, line_read}
 use Rattle.line.specs.Places.{Place, nowhere, offset, told, Expected, meets, wrong_from, expected_as, named_wrong, wrong_in, out_in}
 use Rattle.line.proofs.OutLaws.{first_out, out_told}
@@ -30,6 +27,8 @@ use Rattle.texts.specs.Texts.{lines_of, Zoned, to, lacking, zoned}
 use Rattle.texts.proofs.Parts.{by_test}
 use Rattle.recipes.specs.Recipes.{lacks, Sending, sending_in, sendings, Sent, sent, in_turn, is_done, room_by, of_refused, one_more, refused_line, loaded_with, refused_with, tried_with, load_of}
 use Rattle.saying.specs.Inner.{InBounds}
+use Rattle.wire.specs.declared.Misread.TheVariants.{Syntax, Unknown}
+use Rattle.wire.specs.Road.{Parsed}
 
 -- ---- no place is behind the longest command
 
@@ -62,9 +61,9 @@ wrong_place : (l : List ℕ) → told (wrong_in l) ≤ 23
 unfolding wrong_in
 wrong_place l = chosen (ltb (length l) 5) nowhere (named_wrong (group_named (take 4 (drop 1 l))) l) 23 (omega arith) (by_name (group_named (take 4 (drop 1 l))))
   where
-    by_name : (n : Named) → told (named_wrong n l) ≤ 23
-    by_name NoGroup = omega arith
-    by_name (Is group) =
+    by_name : (n : Option Group) → told (named_wrong n l) ≤ 23
+    by_name None = omega arith
+    by_name (Some group) =
         let es = expected_as (get_or l 0 0) group (length l) in
         chosen (eqb (get_or l 0 0) L || eqb (get_or l 0 0) S) (wrong_from 5 es (drop 5 l)) nowhere 23 (omega (arith, wrong_below 5 es (drop 5 l), few_expected (get_or l 0 0) group (length l))) (omega arith)
 
@@ -79,10 +78,10 @@ first_out_lem fits rule =
     (omega arith)
 
 out_place : (range : ℕ) (p : Parsed) → told (out_in range p) ≤ 23
-out_place range (Known (Write f)) = omega (arith, first_out_lem (five_fit range f) (opens f), out_told range f (five_fit range f) (opens f) refl refl)
-out_place range (Known (Read g)) = omega arith
-out_place range Unknown = omega arith
-out_place range Syntax = omega arith
+out_place range (Ok (Write f)) = omega (arith, first_out_lem (five_fit range f) (opens f), out_told range f (five_fit range f) (opens f) refl refl)
+out_place range (Ok (Read g)) = omega arith
+out_place range (Err Unknown) = omega arith
+out_place range (Err Syntax) = omega arith
 
 pub place_small : (r : Record) (n : ℕ) (line room : List ℕ) → text_place r n line room ≤ 23
 unfolding text_place

@@ -1,68 +1,86 @@
 -- The lines of a recipe one at a time, and a line's zone and command. Assumes nothing.
-use Prim.Native.Nat.{ℕ, zero, suc, ◌+◌, ◌-◌, ◌*◌, ◌≤◌, ◌<◌}
-use mathlib.Core.Path.{◌≡◌, ap}
+use Rattle.std.specs.Prelude.{None, Option, Some}
+use Prim.Native.Nat.{min, ℕ, zero, suc, ◌+◌, ◌-◌, ◌*◌, ◌≤◌, ◌<◌}
+use mathlib.Core.Path.{◌≡◌, ap, sym, ◌∙◌}
 use mathlib.Core.Bool.{true, false}
 use mathlib.Core.List.{List, [], ◌∷◌, ◌++◌}
 use native.Mathlib.Omega.{arith}
-use lib.ListN.{length, take, drop, get_or, length-take, length-drop, get_or-eq_default}
-use lib.Seq.{take_all}
-use lib.Dec.{leb, eqb}
-use borrow.Author.Tests.{leb-true}
-use Rattle.texts.specs.Texts.{index_of}
+use lib.ListN.{length, take, drop, get_or, length-append, length-take, length-drop, get_or-eq_default, drop_of_length-le}
+use Rattle.std.proofs.lemmas.List.{drop_more}
+use lib.Seq.{take_all, drop-drop}
+use lib.Dec.{leb, ltb, eqb}
+use borrow.Author.Tests.{leb-true, ltb-true, ltb-false}
+use Rattle.texts.specs.Texts.{index_of, ended_behind, begun_behind, unended}
 use Rattle.zone.specs.Zones.{empty_zone}
 use Rattle.card.specs.declared.records.Record.{Record}
 use Rattle.card.specs.Records.{zone_at}
 use Rattle.card.specs.Inner.{range_at}
-use Rattle.wire.specs.declared.Figure.{Figure}
-use Rattle.wire.specs.declared.Figure.TheVariants.{Value, Bad}
-use Rattle.texts.specs.declared.decimals.Addressed.{Addressed}
-use Rattle.texts.specs.declared.decimals.Addressed.TheVariants as addressed
 use Rattle.texts.specs.Numbers.{decimal_of}
-use Rattle.texts.specs.Texts.{line_feed, tab, lines_of, field, onward, to, lacking, zoned_by, zoned}
+use Rattle.texts.specs.Texts.{line_feed, tab, lines_of, field, onward, to, zoned_by, zoned}
 use Rattle.texts.specs.Inner.{zoned_seen, start_of}
-use Rattle.texts.proofs.Parts.{by_test, next_line, no_line}
+use Rattle.texts.proofs.Parts.{by_test, next_line, no_line, end_within}
 use Rattle.saying.specs.Loading.{reply_at, numbered, replies_from, marked, pointed_in}
-use Rattle.saying.specs.Inner.{Appended}
 
 -- ---- one line after the other
 
-index_within : (t : List ℕ) → index_of line_feed t ≤ length t
-unfolding index_of
-index_within [] = omega arith
-index_within (x ∷ t) = by_test (eqb x line_feed) (λ e. rw e (omega arith)) (λ e. rw e (omega (arith, index_within t)))
+pub no_more : (t : List ℕ) → length t ≡ 0 → lines_of t ≡ []
+no_more t h = no_line t 0 (omega arith)
 
--- no line ends behind the text
-pub end_within : (text : List ℕ) (at end : ℕ) → at ≤ length text → end ≡ at + index_of line_feed (drop at text) → end ≤ length text
-end_within text at end h e = omega (arith, index_within (drop at text), length-drop at text)
+pub within_text : (t : List ℕ) (end : ℕ) → end ≡ 0 + index_of line_feed t → end ≤ length t
+within_text t end e = end_within t 0 end (omega arith) e
 
-module _ (text : List ℕ) (at end : ℕ) (h : at < length text) (e : end ≡ at + index_of line_feed (drop at text)) where
-  pub one_fewer : length (lines_of (drop at text)) ≡ suc (length (lines_of (drop (end + 1) text)))
-  one_fewer = ap length (next_line text at end h e)
+-- what is left behind a line and its line feed
+behind_line : (t : List ℕ) (end m : ℕ) → end ≤ length t → m ≡ min (length (drop end t)) 1 → take (length (drop end t) - m) (drop m (drop end t)) ≡ drop (end + 1) t
+behind_line t end m h k = take_all (length (drop end t) - m) (drop m (drop end t)) (omega (arith, length-drop m (drop end t))) ∙ by_test (ltb end (length t)) inner last
+  where
+    inner : ltb end (length t) ≡ true → drop m (drop end t) ≡ drop (end + 1) t
+    inner b =
+        let one : m ≡ 1 = omega (arith, length-drop end t, ltb-true end (length t) b) in
+        rw one (drop-drop 1 end t)
 
-  pub passed : (left : ℕ) → 0 < left → get_or (lines_of (drop at text)) left [] ≡ get_or (lines_of (drop (end + 1) text)) (left - 1) []
-  passed zero k = absurd (omega arith)
-  passed (suc left) k =
-      let n : suc left - 1 ≡ left = omega arith in
-      rw (next_line text at end h e, n)
+    last : ltb end (length t) ≡ false → drop m (drop end t) ≡ drop (end + 1) t
+    last b =
+        let over : length t ≤ end = ltb-false end (length t) b in
+        let past : length t ≤ end + 1 = omega arith in
+        let none : m ≡ 0 = omega (arith, length-drop end t) in
+        rw none (drop_of_length-le t over ∙ sym (drop_of_length-le t past))
 
-  pub found : get_or (lines_of (drop at text)) 0 [] ≡ take (end - at) (drop at text)
-  found = rw (next_line text at end h e)
+-- a line, and those behind it
+pub turn : (t line rest : List ℕ) (end m : ℕ) → 0 < length t → end ≡ 0 + index_of line_feed t → line ≡ take end t → rest ≡ drop end t → m ≡ min (length rest) 1
+    → lines_of t ≡ line ∷ lines_of (take (length rest - m) (drop m rest))
+turn t line rest end m h e f g k =
+    let d : m ≡ min (length (drop end t)) 1 = rw g at k in
+    let all : end - 0 ≡ end = omega arith in
+    next_line t 0 end h e ∙ rw (all, f, g, behind_line t end m (within_text t end e) d)
 
-pub none_left : (text : List ℕ) (at left : ℕ) → length text ≤ at → get_or (lines_of (drop at text)) left [] ≡ []
-none_left text at left h = rw (no_line text at h)
+-- no line is longer than the text
+first_or_later : (line : List ℕ) (lines : List (List ℕ)) (n most : ℕ) → length line ≤ most → ((k : ℕ) → length (get_or lines k []) ≤ most) → length (get_or (line ∷ lines) n []) ≤ most
+first_or_later line lines zero most h k = h
+first_or_later line lines (suc n) most h k = k n
+
+short_behind : (so_far t : List ℕ) (n : ℕ) → length (get_or (ended_behind so_far t ++ unended (begun_behind so_far t)) n []) ≤ length so_far + length t
+unfolding ended_behind begun_behind
+short_behind [] [] n = omega arith
+short_behind (x ∷ so_far) [] n = first_or_later (x ∷ so_far) [] n (length (x ∷ so_far) + 0) (omega arith) (λ k. omega arith)
+short_behind so_far (x ∷ t) n =
+    by_test (eqb x line_feed)
+    (λ e. rw e (first_or_later so_far _ n (length so_far + suc (length t)) (omega arith) (λ k. omega (arith, short_behind [] t k))))
+    (λ e. rw e (omega (arith, short_behind (so_far ++ (x ∷ [])) t n, length-append so_far (x ∷ []))))
+
+pub line_short : (t : List ℕ) (n : ℕ) → length (get_or (lines_of t) n []) ≤ length t
+line_short t n = omega (arith, short_behind [] t n)
 
 -- ---- the replies
 
-module _ (lengths room recipe : List ℕ) where
+module _ (lengths room : List ℕ) (lines : List (List ℕ)) where
   -- what is left to say is one line, and what is left behind it
-  pub reply_then : (k at end : ℕ) → at < length recipe → end ≡ at + index_of line_feed (drop at recipe)
-      → replies_from lengths room k (lines_of (drop at recipe)) ≡ numbered (k + 1) (reply_at lengths room k) ++ replies_from lengths room (k + 1) (lines_of (drop (end + 1) recipe))
+  pub reply_then : (k : ℕ) → k < length lines → replies_from lengths room k (drop k lines) ≡ numbered (k + 1) (reply_at lengths room k) ++ replies_from lengths room (k + 1) (drop (k + 1) lines)
   unfolding replies_from
-  reply_then k at end h e = rw (next_line recipe at end h e)
+  reply_then k h = rw (drop_more lines k [] h)
 
-  pub no_reply : (k at : ℕ) → length recipe ≤ at → replies_from lengths room k (lines_of (drop at recipe)) ≡ []
+  pub no_reply : (k : ℕ) → length lines ≤ k → replies_from lengths room k (drop k lines) ≡ []
   unfolding replies_from
-  no_reply k at h = rw (no_line recipe at h)
+  no_reply k h = rw (drop_of_length-le lines h)
 
 -- the part of the room in which the reply stands
 pub reply_part : (lengths room : List ℕ) (k : ℕ) → take (32 * k + get_or lengths k 0 - 32 * k) (drop (32 * k) room) ≡ reply_at lengths room k
@@ -72,10 +90,10 @@ reply_part lengths room k =
 
 -- ---- zone and command
 
-zone_there : (f : Figure) (l : List ℕ) (zone : ℕ) (command : List ℕ) → to zone command ≡ zoned_by f l → length l ≡ suc (length command)
-zone_there Bad l zone command e = absurd (let z : ◌≡◌ {A = ℕ} 0 1 = cc in omega arith)
-zone_there (Value v) [] zone command e = absurd (let z : ◌≡◌ {A = ℕ} 0 1 = cc in omega arith)
-zone_there (Value v) (x ∷ l) zone command e =
+zone_there : (f : Option ℕ) (l : List ℕ) (zone : ℕ) (command : List ℕ) → to zone command ≡ zoned_by f l → length l ≡ suc (length command)
+zone_there None l zone command e = absurd (let z : ◌≡◌ {A = ℕ} 0 1 = cc in omega arith)
+zone_there (Some v) [] zone command e = absurd (let z : ◌≡◌ {A = ℕ} 0 1 = cc in omega arith)
+zone_there (Some v) (x ∷ l) zone command e =
     let same : l ≡ command = cc in
     ap (λ (d : List ℕ). suc (length d)) same
 
@@ -87,13 +105,10 @@ module _ (line : List ℕ) (zone start : ℕ) (e : to zone (drop start line) ≡
   pub behind_tab : start ≡ length (field line) + 1
   behind_tab = omega (arith, parts, length-drop start line)
 
-  front : start - 1 - 0 ≡ index_of tab line
+  front : start - 1 ≡ index_of tab line
   front = omega (arith, behind_tab, length-take (index_of tab line) line)
 
-  pub zone_part : take (start - 1 - 0) (drop 0 line) ≡ field line
-  zone_part = ap (λ (n : ℕ). take n line) front
-
-  pub command_part : take (length line - start) (drop start line) ≡ drop start line
+  command_part : take (length line - start) (drop start line) ≡ drop start line
   command_part = take_all (length line - start) (drop start line) (omega (arith, length-drop start line))
 
 -- a zone above the sixteen has the range of the empty zone
@@ -107,24 +122,16 @@ range_is r zone e = by_test (leb 16 zone) above below
     below t = rw t
 
 -- the same, as the search for the zone told it
-module _ (line : List ℕ) (a : Addressed) (e : zoned_seen line a ≡ zoned (drop 0 line)) (h : start_of a ≤ length line) where
-  pub within : {zone start : ℕ} → a ≡ addressed.To zone start → start ≤ length line
+module _ (line : List ℕ) (a : Option (ℕ × ℕ)) (e : zoned_seen line a ≡ zoned (drop 0 line)) (h : start_of a ≤ length line) where
+  pub within : {zone start : ℕ} → a ≡ Some (zone, start) → start ≤ length line
   within q = rw q at h
 
-  pub tab_before : {zone start : ℕ} → a ≡ addressed.To zone start → 1 ≤ start
+  pub tab_before : {zone start : ℕ} → a ≡ Some (zone, start) → 1 ≤ start
   tab_before {zone} {start} q = omega (arith, behind_tab line zone start (rw q at e) (within q))
 
-  pub both_fit : {zone start : ℕ} → a ≡ addressed.To zone start → length (take (start - 1 - 0) (drop 0 line)) + length (take (length line - start) (drop start line)) ≤ length line
-  both_fit {zone} {start} q = rw (zone_part line zone start (rw q at e) (within q), command_part line zone start (rw q at e) (within q)) (omega (arith, parts line zone start (rw q at e) (within q)))
-
   -- what is said of zone and command is said of the line
-  pub said_of_line : {zone start : ℕ} → a ≡ addressed.To zone start → (r : Record) (number place range : ℕ) → length r.zones ≡ 16 → range ≡ range_at r zone → (out after : List ℕ) (at end : ℕ)
-      → Appended (marked (take (start - 1 - 0) (drop 0 line)) (take (length line - start) (drop start line)) number range place) out after at end → Appended (pointed_in r number place line) out after at end
-  said_of_line {zone} {start} q r number place range z g out after at end f =
+  pub said_of_line : {zone start : ℕ} → a ≡ Some (zone, start) → (r : Record) (number place range : ℕ) → length r.zones ≡ 16 → range ≡ range_at r zone
+      → marked (take (start - 1) line) (take (length line - start) (drop start line)) number range place ≡ pointed_in r number place line
+  said_of_line {zone} {start} q r number place range z g =
       let t : to zone (drop start line) ≡ zoned line = rw q at e in
-      rw (← t) (rw (zone_part line zone start t (within q), command_part line zone start t (within q), g, range_is r zone z) at f)
-
-  pub nothing_said : a ≡ addressed.Lacking → (r : Record) (number place : ℕ) → pointed_in r number place line ≡ []
-  nothing_said q r number place =
-      let t : lacking ≡ zoned line = rw q at e in
-      rw (← t)
+      rw (← t, front line zone start t (within q), command_part line zone start t (within q), g, range_is r zone z)

@@ -4,12 +4,28 @@ use Rattle.zone.specs.declared.figures.Ranged.{Ranged}
 use Rattle.texts.specs.Texts.{lines_of}
 use Rattle.recipes.specs.Recipes.{Loading}
 use Rattle.saying.specs.declared.saying.Shown.{Shown}
+use Rattle.saying.specs.declared.writing.Writer.{Writer}
 use Rattle.saying.specs.Saying.{Said, between}
 
--- behind the first `at` bytes stands the text, and ends before index `end`
-pub record Appended (text out after : List ℕ) (at end : ℕ) : Type 0 where
-  pub contents : take end after ≡ take at out ++ text
-  pub count : end ≡ at + length text
+-- what a writer has written, at the front of its room
+abbrev pub written : Writer → List ℕ
+written w = take w.filled w.room.now
+
+-- so many bytes more fit into its room
+abbrev pub HasRoom : Writer → ℕ → Type 0
+HasRoom w n = w.filled + n ≤ length w.room.now
+
+-- a text was written behind what stood there, in the same room
+pub record Wrote (text : List ℕ) (old new : Writer) : Type 0 where
+  pub same_room : new.room.ghost_name ≡ old.room.ghost_name
+  pub size : length new.room.now ≡ length old.room.now
+  pub filled : new.filled ≡ old.filled + length text
+  pub contents : written new ≡ written old ++ text
+
+-- and it has so many bytes at most
+pub record WroteAtMost (most : ℕ) (text : List ℕ) (old new : Writer) : Type 0 where
+  pub wrote : Wrote text old new
+  pub short : new.filled ≤ old.filled + most
 
 -- a range in words
 abbrev pub range_in : Ranged → List ℕ

@@ -1,15 +1,15 @@
 // A line to zone 0, and what is written for it.
-ghost use Rattle.std.specs.Prelude.{◌≡◌, map, ◌+◌, ◌-◌, ◌≤◌, length, take, true, []};
+ghost use Rattle.std.specs.Prelude.{◌≡◌, ◌++◌, ◌+◌, ◌≤◌, length, true, []};
 ghost use Rattle.zone.specs.Figures.{entries_of, each_in_range};
+ghost use Rattle.card.specs.Answers.{number_of, refusal_number};
 ghost use Rattle.line.specs.Places.{of_figures};
-ghost use Rattle.saying.specs.Inner.{Appended, range_in, shown_seen};
-ghost use Rattle.saying.specs.Saying.{behind_blanks, meaning, printed, range_missed, end_missed, missed, expectation, caret_at, pointed, explained, too_long, say_of};
+ghost use Rattle.saying.specs.Inner.{HasRoom, WroteAtMost, range_in, shown_seen};
+ghost use Rattle.saying.specs.Loading.{wanted};
+ghost use Rattle.saying.specs.Saying.{behind_blanks, meaning, carries_place, range_missed, end_missed, missed, expectation, caret, pointed, answer_line, explained, say_of};
 
-use crate::writing::{
-    append, append_answer, append_blanks, append_decimal, append_meaning, append_printed,
-    append_words,
-};
-use card::Record;
+use crate::writing::{Writer, meaning, words};
+use card::{Answer, Record, Refusal};
+use roads::Replied;
 use wire::Parsed;
 use zone::{Command, Figures, Ranged};
 
@@ -20,212 +20,184 @@ pub struct Shown {
 }
 
 // The range of a figure, in words.
-fn append_range(ranged: Ranged, out: &mut [u8], at: usize) -> usize
-    requires { at + 10 ≤ length out.old }
-    ensures appended { Appended (range_in ranged) out.old out.new at result }
-    ensures upper_bound { result ≤ at + 10 }
+fn write_range(ranged: Ranged, w: &mut Writer)
+    requires { HasRoom w.old 10 }
+    ensures { WroteAtMost 10 (range_in ranged) w.old w.new }
 {
-    let a = append_decimal(ranged.lowest, out, at);
-    let b = append(b" to ", out, a);
-    append_decimal(ranged.highest, out, b)
+    w.decimal(ranged.lowest);
+    w.text(b" to ");
+    w.decimal(ranged.highest);
 }
 
 // The range of the first figure that is out of it.
-fn append_first_missed(figures: Figures, range: u32, out: &mut [u8], at: usize) -> usize
-    requires { at + 10 ≤ length out.old }
-    ensures appended { Appended (range_missed range (entries_of figures)) out.old out.new at result }
-    ensures upper_bound { result ≤ at + 10 }
+fn write_first_missed(figures: Figures, range: u32, w: &mut Writer)
+    requires { HasRoom w.old 10 }
+    ensures { WroteAtMost 10 (range_missed range (entries_of figures)) w.old w.new }
 {
     let row = figures.row(range);
-    let fits = figures.fits(range);
-    if !fits[0] {
-        return append_range(row[0], out, at);
+    let first = row
+        .iter()
+        .find(|g| !(g.lowest..=g.highest).contains(&g.number));
+    if let Some(&missed) = first {
+        write_range(missed, w);
     }
-    if !fits[1] {
-        return append_range(row[1], out, at);
-    }
-    if !fits[2] {
-        return append_range(row[2], out, at);
-    }
-    if !fits[3] {
-        return append_range(row[3], out, at);
-    }
-    if !fits[4] {
-        return append_range(row[4], out, at);
-    }
-    at
 }
 
 // What the end of a window may be, above its begin; nothing for the other forms.
-fn append_end_missed(figures: Figures, range: u32, out: &mut [u8], at: usize) -> usize
-    requires { (each_in_range range figures ≡ true) × (at + 10 ≤ length out.old) }
-    ensures appended { Appended (end_missed range figures) out.old out.new at result }
-    ensures upper_bound { result ≤ at + 10 }
+#[tactic(auto, using(zone::proofs::Mended::begin_in))]
+fn write_end_missed(figures: Figures, range: u32, w: &mut Writer)
+    requires { (each_in_range range figures ≡ true) × HasRoom w.old 10 }
+    ensures { WroteAtMost 10 (end_missed range figures) w.old w.new }
 {
-    let row = figures.row(range);
-    let mut end = row[4];
-    match figures {
-        Figures::AhueDeadline(_) => at,
-        Figures::AhueWindow(f) => {
-            end.lowest = f.begin + 1;
-            append_range(end, out, at)
-        }
-        Figures::HzbgLimit(_) => at,
-        Figures::RrueReference(_) => at,
-        Figures::SolwSetpoint(_) => at,
+    if let Figures::AhueWindow(window) = figures {
+        let row = figures.row(range);
+        let end = Ranged {
+            lowest: window.begin + 1,
+            ..row[4]
+        };
+        write_range(end, w);
     }
 }
 
 // The range that the figure at the place of a 9 missed.
-fn append_missed(figures: Figures, range: u32, out: &mut [u8], at: usize) -> usize
-    requires { at + 10 ≤ length out.old }
-    ensures appended { Appended (missed range figures) out.old out.new at result }
-    ensures upper_bound { result ≤ at + 10 }
+fn write_missed(figures: Figures, range: u32, w: &mut Writer)
+    requires { HasRoom w.old 10 }
+    ensures { WroteAtMost 10 (missed range figures) w.old w.new }
 {
     if figures.each_in_range(range) {
-        return append_end_missed(figures, range, out, at);
-    }
-    append_first_missed(figures, range, out, at)
-}
-
-fn append_missed_in(parsed: Parsed, range: u32, out: &mut [u8], at: usize) -> usize
-    requires { at + 10 ≤ length out.old }
-    ensures appended { Appended (of_figures (missed range) [] parsed) out.old out.new at result }
-    ensures upper_bound { result ≤ at + 10 }
-{
-    match parsed {
-        Parsed::Known(command) => match command {
-            Command::Write(figures) => append_missed(figures, range, out, at),
-            Command::Read(_) => at,
-        },
-        Parsed::Unknown => at,
-        Parsed::Syntax => at,
+        write_end_missed(figures, range, w);
+    } else {
+        write_first_missed(figures, range, w);
     }
 }
 
-// How far behind the five letters an offset is.
-fn behind_letters(place: usize) -> usize
-    ensures { result ≡ place - 5 }
+// The same for a line; nothing where it is no command that writes.
+fn write_missed_in(parsed: Parsed, range: u32, w: &mut Writer)
+    requires { HasRoom w.old 10 }
+    ensures { WroteAtMost 10 (of_figures (missed range) [] parsed) w.old w.new }
 {
-    if place < 5 { 0 } else { place - 5 }
-}
-
-// What is expected at the place.
-fn append_expectation(
-    number: u32,
-    range: u32,
-    line: &[u8],
-    place: usize,
-    out: &mut [u8],
-    at: usize,
-) -> usize
-    requires { at + 12 ≤ length out.old }
-    ensures appended { Appended (expectation number range line.now place) out.old out.new at result }
-    ensures upper_bound { result ≤ at + 12 }
-{
-    if number == 8 {
-        return append_words(line::expected(line, behind_letters(place)), out, at);
+    if let Ok(Command::Write(figures)) = parsed {
+        write_missed(figures, range, w);
     }
-    let reading = line::read(line);
-    let parsed = reading.parsed;
-    append_missed_in(parsed, range, out, at)
 }
 
-// The line as it prints.
-fn append_sent(line: &[u8], out: &mut [u8], at: usize) -> usize
-    requires { (length line.now ≤ 600) × (at + 603 ≤ length out.old) }
-    ensures appended { Appended (behind_blanks (map printed line.now)) out.old out.new at result }
-    ensures upper_bound { result ≤ at + 603 }
+// What a refusal means, on a line of its own.
+// Four functions write two blanks and a line feed: a closure for what is between needs a proof of its room at each call.
+pub fn write_meant(why: Refusal, w: &mut Writer)
+    requires { HasRoom w.old 83 }
+    ensures { WroteAtMost 83 (behind_blanks (meaning (refusal_number why))) w.old w.new }
 {
-    let a = append(b"  ", out, at);
-    let b = append_printed(line, out, a);
-    append(b"\n", out, b)
+    w.text(b"  ");
+    w.text(meaning(why));
+    w.text(b"\n");
 }
 
-// A caret in a column, with what is expected at the place that it stands under.
-pub fn append_caret(
-    column: usize,
-    number: u32,
-    range: u32,
-    line: &[u8],
-    place: usize,
-    out: &mut [u8],
-    at: usize,
-) -> usize
-    requires { at + column + 17 ≤ length out.old }
-    ensures appended { Appended (behind_blanks (caret_at column (expectation number range line.now place))) out.old out.new at result }
-    ensures upper_bound { result ≤ at + column + 17 }
-{
-    let a = append(b"  ", out, at);
-    let b = append_blanks(column, out, a);
-    let c = append(b"^ ", out, b);
-    let d = append_expectation(number, range, line, place, out, c);
-    append(b"\n", out, d)
+// What is wrong with a line: why it is refused, the place, and the range of its zone, against which its figures are held.
+#[derive(Clone, Copy)]
+pub struct Fault<'a> {
+    pub why: Refusal,
+    pub range: u32,
+    pub line: &'a [u8],
+    pub place: usize,
 }
 
-// The line, and under it the caret.
-fn append_pointed(
-    number: u32,
-    range: u32,
-    line: &[u8],
-    place: usize,
-    out: &mut [u8],
-    at: usize,
-) -> usize
-    requires { (length line.now ≤ 600) × (place ≤ 600) × (at + 1220 ≤ length out.old) }
-    ensures appended { Appended (pointed line.now place (expectation number range line.now place)) out.old out.new at result }
-    ensures upper_bound { result ≤ at + 1220 }
-{
-    let a = append_sent(line, out, at);
-    append_caret(place, number, range, line, place, out, a)
-}
-
-// What the number of a refusal means, on a line of its own.
-pub fn append_meant(number: u32, out: &mut [u8], at: usize) -> usize
-    requires { at + 83 ≤ length out.old }
-    ensures appended { Appended (behind_blanks (meaning number)) out.old out.new at result }
-    ensures upper_bound { result ≤ at + 83 }
-{
-    let a = append(b"  ", out, at);
-    let b = append_meaning(number, out, a);
-    append(b"\n", out, b)
-}
-
-// What stands behind the answer.
-fn append_explained(
-    number: u32,
-    range: u32,
-    line: &[u8],
-    place: usize,
-    out: &mut [u8],
-    at: usize,
-) -> usize
-    requires { (length line.now ≤ 600) × (place ≤ 600) × (at + 1303 ≤ length out.old) }
-    ensures appended { Appended (explained number range line.now place) out.old out.new at result }
-    ensures upper_bound { result ≤ at + 1303 }
-{
-    if number == 0 {
-        return at;
+impl Fault<'_> {
+    fn carries_place(&self) -> bool
+        ensures { result ≡ carries_place (refusal_number self.now.why) }
+    {
+        matches!(self.why, Refusal::Syntax | Refusal::OutOfRange)
     }
-    let a = append_meant(number, out, at);
-    if (number == 8) | (number == 9) {
-        return append_pointed(number, range, line, place, out, a);
+
+    // What is expected at the place.
+    fn write_expectation(&self, w: &mut Writer)
+        requires { HasRoom w.old 12 }
+        ensures { WroteAtMost 12 (expectation (refusal_number self.now.why) self.now.range self.now.line.now self.now.place) w.old w.new }
+    {
+        if let Refusal::Syntax = self.why {
+            let behind_letters = self.place.saturating_sub(5);
+            w.text(words(line::expected(self.line, behind_letters)));
+        } else {
+            let reading = line::read(self.line);
+            write_missed_in(reading.parsed, self.range, w);
+        }
     }
-    a
+
+    // A caret in a column, and behind it what is expected there if the refusal carries a place.
+    pub fn write_caret(&self, column: usize, w: &mut Writer)
+        requires { HasRoom w.old (column + 17) }
+        ensures { WroteAtMost (column + 17) (behind_blanks (caret column (wanted (refusal_number self.now.why) self.now.range self.now.line.now self.now.place))) w.old w.new }
+    {
+        w.text(b"  ");
+        w.blanks(column);
+        w.text(b"^");
+        if self.carries_place() {
+            w.text(b" ");
+            self.write_expectation(w);
+        }
+        w.text(b"\n");
+    }
+
+    // The line as it prints, and under it the caret.
+    fn write_pointed(&self, w: &mut Writer)
+        requires { (carries_place (refusal_number self.now.why) ≡ true) × (length self.now.line.now ≤ 600) × (self.now.place ≤ 600) × HasRoom w.old 1220 }
+        ensures { WroteAtMost 1220 (pointed self.now.line.now self.now.place (expectation (refusal_number self.now.why) self.now.range self.now.line.now self.now.place)) w.old w.new }
+    {
+        w.text(b"  ");
+        w.printed(self.line);
+        w.text(b"\n");
+        self.write_caret(self.place, w);
+    }
+
+    // What stands behind the answer.
+    fn write_explained(&self, w: &mut Writer)
+        requires { (length self.now.line.now ≤ 600) × (self.now.place ≤ 600) × HasRoom w.old 1303 }
+        ensures { WroteAtMost 1303 (explained (refusal_number self.now.why) self.now.range self.now.line.now self.now.place) w.old w.new }
+    {
+        write_meant(self.why, w);
+        if self.carries_place() {
+            self.write_pointed(w);
+        }
+    }
 }
 
-// A line of more than 600 bytes: 13, and nothing changes.
-fn too_long(r: Record, out: &mut [u8]) -> Shown
-    requires { 1500 ≤ length out.old }
-    ensures out_after { shown_seen result out.new ≡ too_long r }
-    ensures filled_bound { result.filled ≤ 1500 }
+// What is said of a line that was answered: the answer, and behind it what is wrong, if it was refused.
+fn write_replied(replied: Replied, reply: &[u8], range: u32, line: &[u8], w: &mut Writer)
+    requires { (length reply.now ≤ 32) × (length line.now ≤ 600) × (replied.place ≤ 600) × HasRoom w.old 1344 }
+    ensures { WroteAtMost 1344 (answer_line (number_of replied.answer) reply.now replied.place ++ explained (number_of replied.answer) range line.now replied.place) w.old w.new }
 {
-    let a = append_answer(13, b"", 0, out, 0);
-    let b = append_explained(13, 0, b"", 0, out, a);
-    Shown {
-        after: r,
-        filled: b,
+    w.answer(replied.answer.number(), reply, replied.place as u32);
+    if let Answer::Refused(why) = replied.answer {
+        let fault = Fault {
+            why,
+            range,
+            line,
+            place: replied.place,
+        };
+        fault.write_explained(w);
     }
+}
+
+// A line to zone 0 of the record, and what is said of it. The result is the record afterwards.
+#[tactic(auto, using(crate::proofs::Told::written), unfolding(crate::specs::Saying::say_of))]
+fn write_said(r: Record, line: &[u8], w: &mut Writer) -> Record
+    requires { HasRoom w.old 1344 }
+    ensures after { result ≡ (say_of r line.now).after }
+    ensures output { WroteAtMost 1344 (say_of r line.now).output w.old w.new }
+{
+    if line.len() > 600 {
+        let unreadable = Replied {
+            answer: Answer::Refused(Refusal::Unreadable),
+            length: 0,
+            place: 0,
+            after: r,
+        };
+        write_replied(unreadable, b"", 0, b"", w);
+        return r;
+    }
+    let mut room = [0u8; 32];
+    let replied = roads::text(r, 0, line, &mut room);
+    write_replied(replied, &room[..replied.length], r.range_at(0), line, w);
+    replied.after
 }
 
 // A line to zone 0 of the record. What is written for it stands at the front of `out`.
@@ -234,20 +206,10 @@ pub fn say(r: Record, line: &[u8], out: &mut [u8]) -> Shown
     ensures out_after { shown_seen result out.new ≡ say_of r line.now }
     ensures filled_bound { result.filled ≤ 1500 }
 {
-    if 600 < line.len() {
-        return too_long(r, out);
-    }
-    let mut room = [0u8; 32];
-    let replied = roads::text(r, 0, line, &mut room);
-    let answer = replied.answer;
-    let after = replied.after;
-    let number = answer.number();
-    let place = replied.place;
-    let length = replied.length;
-    let a = append_answer(number, &room[0..length], place as u32, out, 0);
-    let b = append_explained(number, r.range_at(0), line, place, out, a);
+    let mut w = Writer::new(out);
+    let after = write_said(r, line, &mut w);
     Shown {
-        after: after,
-        filled: b,
+        after,
+        filled: w.len(),
     }
 }

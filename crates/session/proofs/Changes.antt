@@ -1,4 +1,5 @@
 -- What a call does to a zone: nothing, or what a done write, report, removal, addition, choice of a source, booking, shipment, merging, repair or recipe sets. Assumes nothing.
+use Rattle.std.specs.Prelude.{Ok, Some}
 use Prim.Native.Nat.{ℕ, ◌+◌, ◌-◌}
 use mathlib.Core.Path.{◌≡◌, refl, sym, ap, ◌∙◌, subst}
 use mathlib.Core.Bool.{Bool, true, false, cond}
@@ -21,7 +22,6 @@ use Rattle.zone.proofs.Tests.{never}
 use Rattle.zone.proofs.Mended.{by_window, not_shut}
 use Rattle.card.specs.declared.records.Record.{Record}
 use Rattle.card.specs.Answers.{Result}
-use Rattle.card.specs.declared.records.Found.TheVariants.{At}
 use Rattle.card.specs.Records.{zone_at, find_of}
 use Rattle.card.specs.Calls.{add_of, apply_of}
 use Rattle.card.proofs.Kept.{add_exactly, add_keeps, remove_keeps, report_keeps, apply_keeps, choose_source_keeps, book_keeps, ship_keeps}
@@ -29,7 +29,7 @@ use Rattle.card.proofs.Finding.{find_own}
 use Rattle.card.proofs.Repairs.{repair_done, shut_present, repair_mends}
 use Rattle.card.proofs.Sets.{remove_at_zone, report_at_zone, write_at_zone, choose_source_at_zone, book_at_zone, ship_at_zone, add_sets, remove_sets, report_sets, write_sets, choose_source_sets, book_sets, ship_sets, ship_held, read_alters_nothing, setpoint_in_use_alters_nothing}
 use Rattle.card.proofs.Merging.{merge_at_zones, merge_folds}
-use Rattle.wire.specs.declared.Parsed.TheVariants.{Known}
+use Rattle.wire.specs.Road.{Parsed}
 use Rattle.line.specs.Line.{line_read}
 use Rattle.frame.specs.declared.reading.Framed.TheVariants.{Request}
 use Rattle.frame.specs.Frame.{address_in, frame_read}
@@ -83,7 +83,7 @@ text_becomes : (r : Record) (m : ℕ) (line room : List ℕ) (n : ℕ) → Becom
 text_becomes r m line room n =
     at_zone_lem r (in_room (text m line) room) m n (text_touches r m line room) (λ d.
     let w = line_is_done r m line room d in
-    by_command r (answer_text r m line room).after (in_room (text m line) room) m w.command (text_after r m line room ∙ after_of w.came.same) w.came.done (λ f e. by_line line room (w.reads ∙ ap Known e) d))
+    by_command r (answer_text r m line room).after (in_room (text m line) room) m w.command (text_after r m line room ∙ after_of w.came.same) w.came.done (λ f e. by_line line room (w.reads ∙ ap Ok e) d))
 
 frame_becomes : (r : Record) (bytes room : List ℕ) (n : ℕ) → Becomes r n (in_room (frame bytes) room) (zone_at (answer_frame r bytes room).after n)
 frame_becomes r bytes room n =
@@ -94,7 +94,7 @@ frame_becomes r bytes room n =
     at_zone_lem r (in_room (frame bytes) room) w.zone n
     (λ k u. frame_touches r bytes room k (λ q. u (q ∙ ap zone_found w.found)))
     (λ d. by_command r (answer_frame r bytes room).after (in_room (frame bytes) room) w.zone w.command same w.came.done
-    (λ f e. by_frame bytes room w.present.present (w.reads ∙ (λ i. Request (sym w.address i) (Known (e i)))) d)))
+    (λ f e. by_frame bytes room w.present.present (w.reads ∙ (λ i. Request (sym w.address i) (Ok (e i)))) d)))
     (λ u. stays (ap (λ (s : Record). zone_at s n) (record_kept r (in_room (frame bytes) room) u)))
 
 -- a done addition found the zone absent
@@ -123,7 +123,7 @@ merge_becomes r a b n d =
 -- ---- what a line or a frame sets
 
 -- the command that came by a road is the one that was read
-pub command_is : {c d : Command} → Known c ≡ Known d → c ≡ d
+pub command_is : {c d : Command} → ◌≡◌ {A = Parsed} (Ok c) (Ok d) → c ≡ d
 command_is e = cc
 
 applied_sets : {o : Result Record} (r : Record) (n : ℕ) (c : Command) (f : Figures) → Applied o r n c → c ≡ Write f → SetsFigures (zone_at r n) f (zone_at o.after n)
@@ -132,19 +132,19 @@ applied_sets {o} r n c f w e =
     let done : (apply_of r n (Write f)).number ≡ 0 = ap (λ (x : Command). (apply_of r n x).number) (sym e) ∙ w.done in
     rw came (write_sets r n f done)
 
-line_sets : (r : Record) (n : ℕ) (f : Figures) (line room : List ℕ) → line_read line ≡ Known (Write f) → (answer_text r n line room).said.number ≡ 0 → SetsFigures (zone_at r n) f (zone_at (answer_text r n line room).after n)
+line_sets : (r : Record) (n : ℕ) (f : Figures) (line room : List ℕ) → line_read line ≡ Ok (Write f) → (answer_text r n line room).said.number ≡ 0 → SetsFigures (zone_at r n) f (zone_at (answer_text r n line room).after n)
 unfolding answer_text
 line_sets r n f line room e d = let w = line_is_done r n line room d in applied_sets r n w.command f w.came (command_is (sym w.reads ∙ e))
 
 -- the zone that a frame reached is the one that has its address
-frame_sets : (r : Record) (n : ℕ) (f : Figures) (bytes room : List ℕ) → (zone_at r n).present ≡ true → frame_read bytes ≡ Request (zone_at r n).address (Known (Write f)) → (answer_frame r bytes room).said.number ≡ 0
+frame_sets : (r : Record) (n : ℕ) (f : Figures) (bytes room : List ℕ) → (zone_at r n).present ≡ true → frame_read bytes ≡ Request (zone_at r n).address (Ok (Write f)) → (answer_frame r bytes room).said.number ≡ 0
     → SetsFigures (zone_at r n) f (zone_at (answer_frame r bytes room).after n)
 unfolding answer_frame
 frame_sets r n f bytes room p e d =
     let w = frame_is_done r bytes room d in
-    let read : Request (address_in bytes) (Known w.command) ≡ Request (zone_at r n).address (Known (Write f)) = sym w.reads ∙ e in
+    let read : Request (address_in bytes) (Ok w.command) ≡ Request (zone_at r n).address (Ok (Write f)) = sym w.reads ∙ e in
     let address : address_in bytes ≡ (zone_at r n).address = cc in
-    let found : At w.zone ≡ At n = sym w.found ∙ ap (find_of r) address ∙ find_own r n w.present.sound_record p in
+    let found : Some w.zone ≡ Some n = sym w.found ∙ ap (find_of r) address ∙ find_own r n w.present.sound_record p in
     let zone : w.zone ≡ n = cc in
     let command : w.command ≡ Write f = cc in
     applied_sets r n w.command f (subst (λ (m : ℕ). Applied (frame_result r bytes room) r m w.command) zone w.came) command
@@ -162,7 +162,7 @@ line_sets_one r line room n d =
     w : LineDone r line.zone line.command room
     w = line_is_done r line.zone line.command room d
 
-    here : (c : Command) → line_read line.command ≡ Known c → SetsInTurn (zone_at r line.zone) (write_in (line_read line.command)) (zone_at (answer_text r line.zone line.command room).after line.zone)
+    here : (c : Command) → line_read line.command ≡ Ok c → SetsInTurn (zone_at r line.zone) (write_in (line_read line.command)) (zone_at (answer_text r line.zone line.command room).after line.zone)
     here (Read group) e = rw e (ap (λ (s : Record). zone_at s line.zone) (text_after r line.zone line.command room ∙ after_of w.came.same ∙ ap (λ (c : Command). (apply_of r line.zone c).after) (command_is (sym w.reads ∙ e)) ∙ read_alters_nothing r line.zone group))
     here (Write f) e = rw e (zone_at (answer_text r line.zone line.command room).after line.zone, line_sets r line.zone f line.command room e d, refl)
 

@@ -1,4 +1,5 @@
 -- Demand 1, of sessions: a removed zone stays empty until it is added again; an address that nobody holds meets silence, and the address of a removed zone goes on meeting it. Assumes nothing.
+use Rattle.std.specs.Prelude.{None, Option, Some}
 use Prim.Native.Nat.{ℕ, ◌≤◌}
 use mathlib.Core.Path.{◌≡◌, refl, sym, ap, ◌∙◌, subst}
 use mathlib.Core.Bool.{Bool, true, false, not, ◌&&◌}
@@ -12,8 +13,6 @@ use Rattle.zone.specs.Zones.{empty_zone, holds}
 use Rattle.zone.specs.Rules.{SameHead}
 use Rattle.zone.proofs.Tests.{never, or_true}
 use Rattle.card.specs.declared.records.Record.{Record}
-use Rattle.card.specs.declared.records.Found.{Found}
-use Rattle.card.specs.declared.records.Found.TheVariants.{At, Nowhere}
 use Rattle.card.specs.Refusals.{Row, ◌gives◌}
 use Rattle.card.specs.Records.{zone_at, sound, find_of, no_zone}
 use Rattle.card.specs.Calls.{remove_of, report_of, apply_of, choose_source_of, setpoint_in_use_of, book_of, ship_of, merge_of}
@@ -67,7 +66,7 @@ stays_removed r n removal calls w u = stays_empty (after r removal) n calls ((se
 -- ---- an address that nobody holds
 
 -- in every case the answer is a silent refusal
-unheld_silent : (r : Record) (f room : List ℕ) → holder r f ≡ Nowhere → (number : ℕ) × (answer_frame r f room ≡ refused_silently number r room)
+unheld_silent : (r : Record) (f room : List ℕ) → holder r f ≡ None → (number : ℕ) × (answer_frame r f room ≡ refused_silently number r room)
 unfolding answer_frame frame_reply
 unheld_silent r f room e = rw e (by_tests (too_small room) (sound r) (shaped f))
   where
@@ -81,7 +80,7 @@ unheld_silent r f room e = rw e (by_tests (too_small room) (sound r) (shaped f))
     by_tests false true false = (4, refl)
     by_tests false true true = (5, refl)
 
-unheld_five : (r : Record) (f room : List ℕ) → holder r f ≡ Nowhere → 32 ≤ length room → sound r ≡ true → shaped f ≡ true → answer_frame r f room ≡ refused_silently 5 r room
+unheld_five : (r : Record) (f room : List ℕ) → holder r f ≡ None → 32 ≤ length room → sound r ≡ true → shaped f ≡ true → answer_frame r f room ≡ refused_silently 5 r room
 unfolding answer_frame frame_reply
 unheld_five r f room e h s k = rw (le-ltb (length room) 32 h, s, k, e)
 
@@ -156,9 +155,9 @@ removed_unheld r n removal w = (found_nowhere gone a).0 (by_found (find_of gone 
     a : ℕ
     a = (zone_at r n).address
 
-    by_found : (f : Found) → find_of gone a ≡ f → find_of gone a ≡ Nowhere
-    by_found (At m) e = never (sym (removal_frees r n removal w).unheld ∙ sym (found_somewhere gone.zones a m e))
-    by_found Nowhere e = e
+    by_found : (f : Option ℕ) → find_of gone a ≡ f → find_of gone a ≡ None
+    by_found (Some m) e = never (sym (removal_frees r n removal w).unheld ∙ sym (found_somewhere gone.zones a m e))
+    by_found None e = e
 
 -- ---- every call that still points at a removed zone is refused in silence
 

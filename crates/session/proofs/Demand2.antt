@@ -1,4 +1,5 @@
 -- Demand 2, gathered from the roads: replies; composing reads back; replies made writes; acknowledgements differ. Assumes nothing.
+use Rattle.std.specs.Prelude.{Ok}
 use Prim.Native.Nat.{ℕ, ◌≤◌}
 use mathlib.Core.Path.{◌≡◌, refl, sym, ap, ◌∙◌}
 use mathlib.Core.Bool.{Bool, true, false, cond, not}
@@ -18,7 +19,6 @@ use Rattle.card.specs.Refusals.{◌gives◌, first}
 use Rattle.card.specs.Records.{zone_at}
 use Rattle.card.specs.Calls.{apply_of}
 use Rattle.card.proofs.Sets.{read_tells, read_alters_nothing}
-use Rattle.wire.specs.declared.Parsed.TheVariants.{Known}
 use Rattle.wire.specs.Road.{carries_command}
 use Rattle.line.specs.Line.{A, text_road, line_with, line_of}
 use Rattle.frame.specs.Frame.{frame_road, body_with, framed, frame_of, short_frame, address_in}
@@ -42,7 +42,7 @@ told r n g p =
 
 -- the address under which a frame of a command is answered
 own_address : (a : ℕ) (c : Command) → carries_command frame_road c ≡ true → address_in (frame_of a c) ≡ a
-own_address a c k = sym (right_sum (frame_of a c) a (Known c) (frame_reads a c k)).2
+own_address a c k = sym (right_sum (frame_of a c) a (Ok c) (frame_reads a c k)).2
 
 read_line : (r : Record) (n : ℕ) (g : Group) (room : List ℕ) → Present r n → 32 ≤ length room
     → answer_text r n (line_of (Read g)) room ≡ record { said = tells (figures_of (zone_at r n) g) (line_with A (figures_of (zone_at r n) g)) room; after = r }

@@ -1,4 +1,5 @@
 -- What is answered as done by a road was a command, and came to what applying it comes to. Assumes nothing.
+use Rattle.std.specs.Prelude.{Err, Ok, None, Option, Some}
 use Prim.Native.Nat.{ℕ, suc, ◌≤◌}
 use mathlib.Core.Path.{◌≡◌, refl, sym, ap, ◌∙◌}
 use mathlib.Core.Bool.{true, false, not}
@@ -11,17 +12,13 @@ use Rattle.zone.specs.declared.zones.Zone.{Zone}
 use Rattle.zone.specs.Lists.{is_zero, every}
 use Rattle.zone.proofs.Tests.{never, both, neither}
 use Rattle.card.specs.declared.records.Record.{Record}
-use Rattle.card.specs.declared.records.Found.{Found}
-use Rattle.card.specs.declared.records.Found.TheVariants.{At, Nowhere}
 use Rattle.card.specs.Answers.{Result}
 use Rattle.card.specs.Records.{zone_at, sound, no_zone}
 use Rattle.card.specs.Calls.{command_at, apply_of}
 use Rattle.card.specs.Rules.{row_at}
 use Rattle.card.specs.Inner.{ask_of}
 use Rattle.card.proofs.Finding.{found_first, found_there}
-use Rattle.wire.specs.declared.Parsed.{Parsed}
-use Rattle.wire.specs.declared.Parsed.TheVariants.{Known, Unknown, Syntax}
-use Rattle.wire.specs.Road.{carries_command}
+use Rattle.wire.specs.Road.{carries_command, Parsed}
 use Rattle.line.specs.Line.{text_road, line_of, line_read}
 use Rattle.frame.specs.declared.reading.Framed.TheVariants.{Request}
 use Rattle.frame.specs.Frame.{frame_road, frame_of, address_in, body_in, shaped, checksum_right, body_read, frame_read}
@@ -32,6 +29,7 @@ use Rattle.roads.proofs.Applied.{text_applies, frame_applies}
 use Rattle.roads.proofs.Exactly.{text_exactly, frame_exactly}
 use Rattle.recipes.specs.Recipes.{Sending, in_turn, is_done}
 use Rattle.session.specs.Demands.{Present}
+use Rattle.wire.specs.declared.Misread.TheVariants.{Syntax, Unknown}
 
 -- what came of it is what applying the command comes to, and that is done
 pub record Applied (o : Result Record) (r : Record) (n : ℕ) (c : Command) : Type 0 where
@@ -42,12 +40,12 @@ applied : {o : Result Record} {r : Record} {n : ℕ} {c : Command} → o ≡ app
 applied e d = record { same = e; done = ap (λ (o : Result Record). o.number) (sym e) ∙ d }
 
 -- what passes 7 and 8 is a known command, judged by the rows 9 and 10
-known : (z : Zone) (p : Parsed) → ((j : ℕ) → (row_at (parsed_rows z p) j).test ≡ false) → (c : Command) × (p ≡ Known c) × ((i : ℕ) → (row_at (command_at z c).rows i).test ≡ false)
-known z (Known c) h = (c, refl, λ i. h (suc (suc i)))
-known z Unknown h = never (sym (h 0))
-known z Syntax h = never (sym (h 1))
+known : (z : Zone) (p : Parsed) → ((j : ℕ) → (row_at (parsed_rows z p) j).test ≡ false) → (c : Command) × (p ≡ Ok c) × ((i : ℕ) → (row_at (command_at z c).rows i).test ≡ false)
+known z (Ok c) h = (c, refl, λ i. h (suc (suc i)))
+known z (Err Unknown) h = never (sym (h 0))
+known z (Err Syntax) h = never (sym (h 1))
 
-known_asked : (r : Record) (n : ℕ) (p : Parsed) (c : Command) → p ≡ Known c → ask_of r n (asked_by p) ≡ apply_of r n c
+known_asked : (r : Record) (n : ℕ) (p : Parsed) (c : Command) → p ≡ Ok c → ask_of r n (asked_by p) ≡ apply_of r n c
 unfolding ask_of apply_of
 known_asked r n p c e = ap (λ (q : Parsed). ask_of r n (asked_by q)) e
 
@@ -60,7 +58,7 @@ there r n s e =
 
 pub record LineDone (r : Record) (n : ℕ) (line room : List ℕ) : Type 0 where
   pub command : Command
-  pub reads : line_read line ≡ Known command
+  pub reads : line_read line ≡ Ok command
   pub came : Applied (text_result r n line room) r n command
   pub present : Present r n
   pub permitted : (i : ℕ) → (row_at (command_at (zone_at r n) command).rows i).test ≡ false
@@ -83,9 +81,9 @@ line_is_done r n line room e =
 
 -- ---- a frame
 
-found_zone : (x : Found) → is_nowhere x ≡ false → x ≡ At (zone_found x)
-found_zone (At n) e = refl
-found_zone Nowhere e = never (sym e)
+found_zone : (x : Option ℕ) → is_nowhere x ≡ false → x ≡ Some (zone_found x)
+found_zone (Some n) e = refl
+found_zone None e = never (sym e)
 
 -- a frame of the right shape and sum is read
 read_as_lem : (f : List ℕ) → shaped f ≡ true → checksum_right f ≡ true → frame_read f ≡ Request (address_in f) (body_read (body_in f))
@@ -95,9 +93,9 @@ read_as_lem f s c = rw (s, c)
 pub record FrameDone (r : Record) (bytes room : List ℕ) : Type 0 where
   pub command : Command
   pub zone : ℕ
-  pub found : holder r bytes ≡ At zone
+  pub found : holder r bytes ≡ Some zone
   pub address : (zone_at r zone).address ≡ address_in bytes
-  pub reads : frame_read bytes ≡ Request (address_in bytes) (Known command)
+  pub reads : frame_read bytes ≡ Request (address_in bytes) (Ok command)
   pub came : Applied (frame_result r bytes room) r zone command
   pub present : Present r zone
   pub permitted : (i : ℕ) → (row_at (command_at (zone_at r zone) command).rows i).test ≡ false

@@ -1,4 +1,5 @@
 -- What a line or a frame does at a zone hangs on that zone and on soundness alone; so the traffic of its neighbours may be struck out (document 02, Req 12). Assumes nothing.
+use Rattle.std.specs.Prelude.{Some}
 use Prim.Native.Nat.{ℕ}
 use mathlib.Core.Path.{◌≡◌, refl, sym, ap, ◌∙◌, subst}
 use mathlib.Core.Bool.{Bool, true, false, not, ◌&&◌}
@@ -11,7 +12,6 @@ use Rattle.zone.specs.Zones.{figures_of, with_figures}
 use Rattle.zone.specs.Rules.{SameHead}
 use Rattle.zone.proofs.Tests.{never, and_r, and_false}
 use Rattle.card.specs.declared.records.Record.{Record}
-use Rattle.card.specs.declared.records.Found.TheVariants.{At}
 use Rattle.card.specs.Records.{empty_record, zone_at, sound}
 use Rattle.card.proofs.Storing.{zone_sound_lem, stored_new}
 use Rattle.card.proofs.Finding.{find_held, past_empty}
@@ -34,7 +34,7 @@ use Rattle.session.proofs.Struck.{may_be_struck, strike_again}
 -- ---- what is for a zone, and where it goes
 
 -- in a sound record who holds the address of a frame for zone n is zone n
-held_there : (r : Record) (n : ℕ) (bytes room : List ℕ) → sound r ≡ true → is_for r n (on_pair bytes room) ≡ true → holder r bytes ≡ At n
+held_there : (r : Record) (n : ℕ) (bytes room : List ℕ) → sound r ≡ true → is_for r n (on_pair bytes room) ≡ true → holder r bytes ≡ Some n
 held_there r n bytes room s e = find_held r (address_in bytes) n s (and_r (shaped bytes) _ e)
 
 -- so what is for zone n goes to it

@@ -1,4 +1,5 @@
 -- Which inputs of the two roads may change places (document 02, Req 10), from what each keeps and sets. Assumes nothing.
+use Rattle.std.specs.Prelude.{Ok}
 use Prim.Native.Nat.{ℕ}
 use mathlib.Core.Path.{◌≡◌, refl, sym, ap, ◌∙◌, subst}
 use mathlib.Core.Logic.{inl, inr}
@@ -25,7 +26,7 @@ use Rattle.card.specs.Records.{zone_at, with_zone, sound, no_zone}
 use Rattle.card.specs.Calls.{apply_of}
 use Rattle.card.proofs.Finding.{find_alike}
 use Rattle.card.proofs.Sets.{stored_there, write_after, read_alters_nothing}
-use Rattle.wire.specs.declared.Parsed.TheVariants.{Known}
+use Rattle.wire.specs.Road.{Parsed}
 use Rattle.frame.specs.Frame.{address_in, body_in, body_read}
 use Rattle.roads.specs.Calls.{zone_found}
 use Rattle.roads.specs.Rules.{JudgesAlike}
@@ -48,7 +49,7 @@ use Rattle.session.proofs.Reordered.{may_be_reordered}
 -- a done input is a command, applied to the present zone that it goes to
 record Does (r : Record) (x : Input) : Type 0 where
   command : Command
-  reads_as : input_read x ≡ Known command
+  reads_as : input_read x ≡ Ok command
   present : Present r (goes_to r x)
   left : next r x ≡ (apply_of r (goes_to r x) command).after
   done : (apply_of r (goes_to r x) command).number ≡ 0
@@ -69,10 +70,10 @@ does r (on_pair bytes room) d =
     }
 
 -- what was read is one command, and no other
-write_one : {f g : Figures} → Known (Write f) ≡ Known (Write g) → f ≡ g
+write_one : {f g : Figures} → ◌≡◌ {A = Parsed} (Ok (Write f)) (Ok (Write g)) → f ≡ g
 write_one e = cc
 
-read_or_write : {g : Group} {f : Figures} → Known (Read g) ≡ Known (Write f) → ⊥
+read_or_write : {g : Group} {f : Figures} → ◌≡◌ {A = Parsed} (Ok (Read g)) (Ok (Write f)) → ⊥
 read_or_write e = let z : ◌≡◌ {A = ℕ} 0 1 = cc in omega arith
 
 -- it is a write, and done
@@ -112,7 +113,7 @@ idle_kept r x u = by_done r (sent x) (λ d. by_command d (does r x d) (does r x 
   where
     by_command : Done r (sent x) → (w : Does r x) (c : Command) → w.command ≡ c → next r x ≡ r
     by_command d w (Read g) e = w.left ∙ ap (λ (c : Command). (apply_of r (goes_to r x) c).after) e ∙ read_alters_nothing r (goes_to r x) g
-    by_command d w (Write f) e = absurd (u f (record { is_write = w.reads_as ∙ ap Known e; done = d }))
+    by_command d w (Write f) e = absurd (u f (record { is_write = w.reads_as ∙ ap Ok e; done = d }))
 
 pub data Effect (r : Record) (x : Input) : Type 0 where
   idle : Idle r x → Effect r x
@@ -121,7 +122,7 @@ pub data Effect (r : Record) (x : Input) : Type 0 where
 pub effect : (r : Record) (x : Input) → Effect r x
 effect r x = by_done r (sent x) (λ d. by_command (does r x d).command (does r x d).reads_as d) (λ u. idle (λ f s. u s.done))
   where
-    by_command : (c : Command) → input_read x ≡ Known c → Done r (sent x) → Effect r x
+    by_command : (c : Command) → input_read x ≡ Ok c → Done r (sent x) → Effect r x
     by_command (Read g) e d = idle (λ f s. read_or_write (sym e ∙ s.is_write))
     by_command (Write f) e d = stores f (record { is_write = e; done = d })
 
@@ -220,7 +221,7 @@ abbrev Unread : Record → Input → Input → Type 0
 Unread r x y = (h : Group) → IsRead x h → WritesTo r y (goes_to r x) h → ⊥
 
 -- a done frame whose body is a read is read as one
-done_frame_reads : (r : Record) (bytes room : List ℕ) (h : Group) → Done r (sent (on_pair bytes room)) → body_read (body_in bytes) ≡ Known (Read h) → IsRead (on_pair bytes room) h
+done_frame_reads : (r : Record) (bytes room : List ℕ) (h : Group) → Done r (sent (on_pair bytes room)) → body_read (body_in bytes) ≡ Ok (Read h) → IsRead (on_pair bytes room) h
 done_frame_reads r bytes room h d q = let w = (frame_is_done r bytes room d).reads in ap request_in w ∙ (right_sum bytes _ _ w).3 ∙ q
 
 module _ (r : Record) (y : Input) where

@@ -1,4 +1,5 @@
 -- What is answered to all calls but those of Req 08 does not hang on the sources: two sound records that differ in source and input alone are answered alike, and left so. Assumes nothing.
+use Rattle.std.specs.Prelude.{Err, Ok, Option}
 use Prim.Native.Nat.{ℕ, ◌+◌}
 use mathlib.Core.Path.{◌≡◌, refl, sym, ap, subst, ◌∙◌}
 use mathlib.Core.Bool.{Bool, true, false, cond, not, ◌&&◌, ◌||◌}
@@ -18,7 +19,6 @@ use Rattle.zone.specs.Sources.{new_origin}
 use Rattle.zone.specs.Zones.{empty_zone, holds, figures_of, address_in_range, range_known, booking_in_range, with_figures, with_origin, with_kilograms}
 use Rattle.zone.proofs.Tests.{never}
 use Rattle.zone.proofs.Written.{same_groups}
-use Rattle.card.specs.declared.records.Found.{Found}
 use Rattle.card.specs.declared.records.Record.{Record}
 use Rattle.card.specs.Answers.{Result}
 use Rattle.card.specs.Refusals.{Row, ◌gives◌, first, settled}
@@ -29,8 +29,6 @@ use Rattle.card.proofs.Finding.{find_alike}
 use Rattle.card.proofs.Mapped.{mapped, mapped_set, held_mapped}
 use Rattle.card.proofs.Sets.{setpoint_in_use_alters_nothing}
 use Rattle.card.proofs.Repairs.{repair_of_sound}
-use Rattle.wire.specs.declared.Parsed.{Parsed}
-use Rattle.wire.specs.declared.Parsed.TheVariants.{Known, Unknown, Syntax}
 use Rattle.line.specs.Line.{line_read}
 use Rattle.frame.specs.Frame.{address_in, body_in, body_read}
 use Rattle.roads.specs.Calls.{Said, Answered, said, parsed_at, text_result, answer_text, text_place, zone_found, holder, result_at, frame_rows, frame_result, answer_frame}
@@ -42,6 +40,8 @@ use Rattle.session.specs.Sessions.{text, frame, compose_line, compose_frame, loa
 use Rattle.session.specs.Sources.{quiet_of_source, of_source, struck, Alike, SourcesAreUnseen}
 use Rattle.session.proofs.Demand3.{stays_sound}
 use Rattle.session.proofs.Struck.{may_be_struck, strike_again}
+use Rattle.wire.specs.declared.Misread.TheVariants.{Syntax, Unknown}
+use Rattle.wire.specs.Road.{Parsed}
 
 -- ---- what does not look at the sources is the same of records that are alike
 
@@ -98,9 +98,9 @@ command_blind (Read g) = record { rows = λ z. refl; values = λ z. ap (λ (f : 
 command_blind (Write f) = record { rows = λ z. refl; values = λ z. refl; left = write_blind f }
 
 parsed_blind : (p : Parsed) → Blind (λ z. parsed_at z p)
-parsed_blind (Known c) = command_blind c
-parsed_blind Unknown = record { rows = λ z. refl; values = λ z. refl; left = λ z. refl }
-parsed_blind Syntax = record { rows = λ z. refl; values = λ z. refl; left = λ z. refl }
+parsed_blind (Ok c) = command_blind c
+parsed_blind (Err Unknown) = record { rows = λ z. refl; values = λ z. refl; left = λ z. refl }
+parsed_blind (Err Syntax) = record { rows = λ z. refl; values = λ z. refl; left = λ z. refl }
 
 -- ---- two results of which the same is seen, but for the sources of the record
 
@@ -156,7 +156,7 @@ module _ {r r' : Record} (a : Alike r r') where
       let n = zone_found (holder r bytes) in
       let e = same_found a (address_in bytes) in
       let rows = frame_rows_lem r r' bytes room (same_sound a) e (judges_alike n) in
-      subst (λ (m : Found). Seen (frame_result r bytes room) (result_at r' (zone_found m) (frame_rows r' bytes room) p)) e (stored_seen n (λ z. parsed_at z p) (parsed_blind p) _ _ rows)
+      subst (λ (m : Option ℕ). Seen (frame_result r bytes room) (result_at r' (zone_found m) (frame_rows r' bytes room) p)) e (stored_seen n (λ z. parsed_at z p) (parsed_blind p) _ _ rows)
 
   -- what a line is answered, and its place
   text_answered : (n : ℕ) (line room : List ℕ) → ((answer_text r n line room).said ≡ (answer_text r' n line room).said) × (text_place r n line room ≡ text_place r' n line room)

@@ -1,5 +1,6 @@
 -- The card that stores the first command of a session and only acknowledges later ones is shut out: every write that is answered as done is stored, whatever came before, and stays until its group is written again, its zone is removed (by merging too) or its window mended.
 -- Cites write_sets of the card, the law that the edit zone/must-fail/stores_first_only breaks. Assumes nothing.
+use Rattle.std.specs.Prelude.{Some}
 use Prim.Native.Nat.{ℕ}
 use mathlib.Core.Path.{◌≡◌, refl, sym, ap, ◌∙◌}
 use mathlib.Core.Bool.{Bool, true, false}
@@ -23,7 +24,6 @@ use Rattle.card.proofs.Kept.{apply_keeps}
 use Rattle.card.proofs.Sets.{write_sets}
 use Rattle.wire.specs.Road.{carries_command}
 use Rattle.line.specs.Line.{text_road, line_of}
-use Rattle.wire.specs.declared.Named.TheVariants.{Is}
 use Rattle.frame.specs.Frame.{frame_road, frame_of, group_indexed}
 use Rattle.frame.proofs.Requests.{index_again}
 use Rattle.roads.specs.Calls.{answer_text, answer_frame}
@@ -67,7 +67,7 @@ same_group : (g h : Group) {P : Type 0} → (g ≡ h → P) → ((g ≡ h → �
 same_group g h {P} f u = by_index (eqb (index g) (index h)) refl
   where
     by_index : (t : Bool) → eqb (index g) (index h) ≡ t → P
-    by_index true e = let named : Is g ≡ Is h = sym (index_again g) ∙ ap group_indexed (eqb-true (index g) (index h) e) ∙ index_again h in f (cc)
+    by_index true e = let named : Some g ≡ Some h = sym (index_again g) ∙ ap group_indexed (eqb-true (index g) (index h) e) ∙ index_again h in f (cc)
     by_index false e = u (λ q. eqb-false (index g) (index h) e (ap index q))
 
 one_kept : (n : ℕ) (group : Group) (r : Record) (call : Call) → (zone_at r n).present ≡ true → NotRewritten n group r call → Kept (λ z. figures_of z group) (zone_at r n) (zone_at (after r call) n)

@@ -1,6 +1,6 @@
 -- What a call does to a zone: what documents 01 and 02 have a done write, report, removal, addition, choice of a source, booking, shipment, merging, repair or recipe set is set, and nothing else becomes of any zone. The hypotheses of the demands on whole sessions are said in these words.
 -- "P → ⊥" says that P does not hold, "P × Q" that both do.
-use Rattle.std.specs.Prelude.{ℕ, ◌+◌, ◌≡◌, true, false, cond, List, [], ◌∷◌, ◌++◌, eqb}
+use Rattle.std.specs.Prelude.{ℕ, ◌+◌, ◌≡◌, true, false, cond, List, [], ◌∷◌, ◌++◌, eqb, Err, Ok}
 use Rattle.zone.specs.declared.figures.Group.{Group}
 use Rattle.zone.specs.declared.figures.Group.TheVariants.{Ahue}
 use Rattle.zone.specs.declared.figures.Figures.{Figures}
@@ -14,20 +14,20 @@ use Rattle.zone.specs.Zones.{new_zone, empty_zone, state_numbered, opened}
 use Rattle.zone.specs.Rules.{SetsFigures, SetsStatus, SetsOrigin, SetsKilograms, Shut}
 use Rattle.card.specs.declared.records.Record.{Record}
 use Rattle.card.specs.Records.{zone_at}
-use Rattle.wire.specs.declared.Parsed.{Parsed}
-use Rattle.wire.specs.declared.Parsed.TheVariants.{Known, Unknown, Syntax}
 use Rattle.line.specs.Line.{line_read}
 use Rattle.frame.specs.declared.reading.Framed.TheVariants.{Request}
 use Rattle.frame.specs.Frame.{frame_read}
 use Rattle.texts.specs.Texts.{lines_of}
 use Rattle.recipes.specs.Recipes.{Sending, sendings}
 use Rattle.session.specs.Sessions.{text, frame, load, add, remove, report, apply, choose_source, book, ship, merge, repair, Call, in_room, quiet, Done, after}
+use Rattle.wire.specs.declared.Misread.TheVariants.{Syntax, Unknown}
+use Rattle.wire.specs.Road.{Parsed}
 
 -- the call is a done write of those figures to zone n, applied or by either road
 pub data Writes (n : ℕ) (figures : Figures) (r : Record) : Call → Type 0 where
   by_apply : Done r (quiet (apply n (Write figures))) → Writes n figures r (quiet (apply n (Write figures)))
-  by_line : (line room : List ℕ) → line_read line ≡ Known (Write figures) → Done r (in_room (text n line) room) → Writes n figures r (in_room (text n line) room)
-  by_frame : (bytes room : List ℕ) → (zone_at r n).present ≡ true → frame_read bytes ≡ Request (zone_at r n).address (Known (Write figures)) → Done r (in_room (frame bytes) room)
+  by_line : (line room : List ℕ) → line_read line ≡ Ok (Write figures) → Done r (in_room (text n line) room) → Writes n figures r (in_room (text n line) room)
+  by_frame : (bytes room : List ℕ) → (zone_at r n).present ≡ true → frame_read bytes ≡ Request (zone_at r n).address (Ok (Write figures)) → Done r (in_room (frame bytes) room)
       → Writes n figures r (in_room (frame bytes) room)
 
 -- a done report of that state and actual value to zone n
@@ -59,10 +59,10 @@ pub data Rebooks (n kilograms : ℕ) (r : Record) : Call → Type 0 where
 
 -- what a line asks to write, and what the lines of a recipe ask to write to zone n, in their order (document 02, Req 01)
 abbrev pub write_in : Parsed → List Figures
-write_in (Known (Read group)) = []
-write_in (Known (Write figures)) = figures ∷ []
-write_in Unknown = []
-write_in Syntax = []
+write_in (Ok (Read group)) = []
+write_in (Ok (Write figures)) = figures ∷ []
+write_in (Err Unknown) = []
+write_in (Err Syntax) = []
 
 abbrev pub writes_to : ℕ → List Sending → List Figures
 writes_to n [] = []

@@ -1,6 +1,6 @@
 -- The three demands, in the buyer's order and words, and at the end what document 02's Req 06 says of sessions. Above each statement stands where it is proved.
 -- "P → ⊥" says that P does not hold, "P ⊎ Q" that one of the two does, "P × Q" that both do.
-use Rattle.std.specs.Prelude.{ℕ, ◌*◌, ◌≤◌, ◌<◌, min, ◌≡◌, ◌⊎◌, Bool, true, false, cond, ◌&&◌, List, [], ◌∷◌, map, length, get_or, set, eqb, ltb}
+use Rattle.std.specs.Prelude.{ℕ, ◌*◌, ◌≤◌, ◌<◌, min, ◌≡◌, ◌⊎◌, Bool, true, false, cond, ◌&&◌, List, [], ◌∷◌, map, length, get_or, set, eqb, ltb, Ok}
 use Rattle.zone.specs.declared.figures.Group.{Group}
 use Rattle.zone.specs.declared.figures.Figures.{Figures}
 use Rattle.zone.specs.declared.figures.Figures.TheVariants.{AhueWindow}
@@ -19,7 +19,6 @@ use Rattle.card.specs.Refusals.{Row}
 use Rattle.card.specs.Records.{zone_at, otherwise_sound, sound}
 use Rattle.card.specs.Calls.{add_rows, zone_rows, remove_at, report_at, command_at, choose_source_at, setpoint_in_use_at, book_at, ship_at, merge_rows, repair_rows}
 use Rattle.card.specs.Rules.{ExactlyWhen, numbers_in, add_order, remove_order, report_order, apply_order, choose_source_order, setpoint_in_use_order, book_order, ship_order, merge_order, repair_order, InOrder}
-use Rattle.wire.specs.declared.Parsed.TheVariants.{Known}
 use Rattle.wire.specs.Road.{carries_command}
 use Rattle.line.specs.Line.{A, S, text_road, line_with, line_of, line_read}
 use Rattle.frame.specs.declared.reading.Framed.TheVariants.{Request}
@@ -120,8 +119,8 @@ EveryCallAnswers = (r : Record) (call : Call) → EndsWell r call
 
 -- of a write the refusals are the whole printed order: a card that forgets one of them has a shorter list.
 pub record WholeOrder (r : Record) (n : ℕ) (figures : Figures) (bytes room : List ℕ) : Type 0 where
-  pub by_line : line_read bytes ≡ Known (Write figures) → numbers_in (refusals r (in_room (text n bytes) room)) ≡ text_order
-  pub by_frame : body_read (body_in bytes) ≡ Known (Write figures) → numbers_in (refusals r (in_room (frame bytes) room)) ≡ frame_order
+  pub by_line : line_read bytes ≡ Ok (Write figures) → numbers_in (refusals r (in_room (text n bytes) room)) ≡ text_order
+  pub by_frame : body_read (body_in bytes) ≡ Ok (Write figures) → numbers_in (refusals r (in_room (frame bytes) room)) ≡ frame_order
   pub applied : numbers_in (refusals r (quiet (apply n (Write figures)))) ≡ apply_order
 
 -- `whole_order` and, of the statement below, `whole_order_quiet`, in proofs/Answering.antt
@@ -208,8 +207,8 @@ pub record Replies (r : Record) (n : ℕ) (group : Group) (room : List ℕ) : Ty
   pub by_frame : answer_frame r (frame_of (zone_at r n).address (Read group)) room
       ≡ record { said = tells (figures_of (zone_at r n) group) (framed (body_with (zone_at r n).address 0x00 (figures_of (zone_at r n) group))) room; after = r }
   -- "A read reply with A made S, or with 00 made 69 and a fresh checksum, is the write command of its figures"
-  pub line_writes : line_read (set (line_with A (figures_of (zone_at r n) group)) 0 S) ≡ Known (Write (figures_of (zone_at r n) group))
-  pub frame_writes : frame_read (framed (set (body_with (zone_at r n).address 0x00 (figures_of (zone_at r n) group)) 1 0x69)) ≡ Request (zone_at r n).address (Known (Write (figures_of (zone_at r n) group)))
+  pub line_writes : line_read (set (line_with A (figures_of (zone_at r n) group)) 0 S) ≡ Ok (Write (figures_of (zone_at r n) group))
+  pub frame_writes : frame_read (framed (set (body_with (zone_at r n).address 0x00 (figures_of (zone_at r n) group)) 1 0x69)) ≡ Request (zone_at r n).address (Ok (Write (figures_of (zone_at r n) group)))
 
 -- `replies`, in proofs/Demand2.antt
 abbrev pub ReadsAreReplied : Type 0
@@ -250,8 +249,8 @@ pub record ReadsBack (address : ℕ) (command : Command) (room : List ℕ) : Typ
   -- a done composing leaves the line, or the frame, in the room, which keeps its contents behind it
   pub line_said : (composed_line command room).number ≡ 0 → composed_line command room ≡ said 0 [] (line_of command) room
   pub frame_said : (composed_frame address command room).number ≡ 0 → composed_frame address command room ≡ said 0 [] (frame_of address command) room
-  pub line_back : (composed_line command room).number ≡ 0 → line_read (reply_in (composed_line command room)) ≡ Known command
-  pub frame_back : (composed_frame address command room).number ≡ 0 → frame_read (reply_in (composed_frame address command room)) ≡ Request address (Known command)
+  pub line_back : (composed_line command room).number ≡ 0 → line_read (reply_in (composed_line command room)) ≡ Ok command
+  pub frame_back : (composed_frame address command room).number ≡ 0 → frame_read (reply_in (composed_frame address command room)) ≡ Request address (Ok command)
   -- and sent, with reply room of 32 bytes, it comes to what applying the command comes to: the line to any zone of any record, the frame to the present zone of a sound record that has its address
   pub line_sent : (composed_line command room).number ≡ 0
       → (r : Record) (n : ℕ) (room' : List ℕ) → 32 ≤ length room' → Same (answer_text r n (reply_in (composed_line command room)) room') (answer_to r (quiet (apply n command)))

@@ -2,7 +2,7 @@
 -- A card that refuses everything would satisfy all of it but the worked cases; demand 2 rules that one out (WritesAreJudged, in Demands.antt).
 -- How to read it. "(x : A) → P" says that P holds for every x, "P → Q" that Q holds where P does ("P → Q → R" that R holds where both do), "⊥" never holds, so "P → ⊥" says that P does not hold, "Unit" always does; "P × Q" says that both hold and "(x : A) × P" that there is an x with P, "P ⊎ Q" that one of the two holds, "P ↔ Q" that each holds where the other does, "x ≡ y" that they are equal.
 -- Of a "record" all lines hold, of a "data" one; "Type 0" is what statements and kinds of things are, and what stands in braces is found from the rest. "[]" is the empty list, "x ∷ xs" is x and behind it the list xs, "map f xs" has f of each; "A × B" are the pairs "(a, b)", of which ".0" is the first part and ".1" the second; "z.part" is that part of z, "λ x. e" what gives e for x. "true" and "false" are what tests give ("Bool"): "eqb a b" tests whether two numbers are equal, "&&" is and, "||" or, "not" the contrary.
-use Rattle.std.specs.Prelude.{ℕ, ◌≡◌, ◌⊎◌, ◌↔◌, true, false, List, [], ◌∷◌, map}
+use Rattle.std.specs.Prelude.{ℕ, ◌≡◌, ◌⊎◌, ◌↔◌, true, false, List, [], ◌∷◌, map, Err, Ok}
 use Prim.Native.String.{String}
 use Rattle.zone.specs.declared.figures.Group.{Group}
 use Rattle.zone.specs.declared.figures.Figures.{Figures}
@@ -13,8 +13,6 @@ use Rattle.zone.specs.Zones.{new_zone}
 use Rattle.card.specs.declared.records.Record.{Record}
 use Rattle.card.specs.Records.{empty_record, zone_at, with_zone, find_of, no_zone}
 use Rattle.card.specs.Calls.{setpoint_told}
-use Rattle.wire.specs.declared.Parsed.{Parsed}
-use Rattle.wire.specs.declared.Parsed.TheVariants.{Known, Unknown}
 use Rattle.line.specs.Line.{line_read}
 use Rattle.frame.specs.declared.reading.Framed.{Framed}
 use Rattle.frame.specs.declared.reading.Framed.TheVariants.{NoFrame, BadSum, Request}
@@ -22,13 +20,15 @@ use Rattle.frame.specs.Frame.{frame_read}
 use Rattle.roads.specs.Calls.{zone_found, holder}
 use Rattle.session.specs.Sessions.{add, report, Call, quiet, Done, run_by, run, heard_by, answers_of}
 use Rattle.session.specs.Inputs.{Input, on_port, on_pair, sent, next, heard, line_on}
+use Rattle.wire.specs.declared.Misread.TheVariants.{Unknown}
+use Rattle.wire.specs.Road.{Parsed}
 
 -- ---- what a write is, and where it goes
 
 -- what a frame asks for. Bytes that are no frame (4), and a frame whose checksum differs (6), are no command; here both count as unknown. Their numbers stay 4 and 6
 abbrev pub request_in : Framed → Parsed
-request_in NoFrame = Unknown
-request_in (BadSum address) = Unknown
+request_in NoFrame = Err Unknown
+request_in (BadSum address) = Err Unknown
 request_in (Request address parsed) = parsed
 
 -- what an input is read as
@@ -38,10 +38,10 @@ input_read (on_pair bytes room) = request_in (frame_read bytes)
 
 -- any input that a road reads as a write is a write, done or refused; and so a read
 abbrev pub IsWrite : Input → Figures → Type 0
-IsWrite x figures = input_read x ≡ Known (Write figures)
+IsWrite x figures = input_read x ≡ Ok (Write figures)
 
 abbrev pub IsRead : Input → Group → Type 0
-IsRead x group = input_read x ≡ Known (Read group)
+IsRead x group = input_read x ≡ Ok (Read group)
 
 -- the zone that it goes to: that of its port, present or not, or the one that holds its address; 16, which is none, where nobody does. (Bytes that are no frame have no address; they are no command either, so what is found for them does not matter)
 abbrev pub goes_to : Record → Input → ℕ
@@ -75,7 +75,7 @@ WritesCommute = (r : Record) (x y : Input) (f g : Figures) → IsWrite x f → I
 
 -- What goes to no present zone (3, 5), or is read as no command (4, 6, 7, 8), commutes with every line and frame. `nowhere_commutes`, in proofs/Order.antt
 abbrev pub NowhereCommutes : Type 0
-NowhereCommutes = (r : Record) (x y : Input) → (no_zone r (goes_to r x) ≡ true) ⊎ ((command : Command) → input_read x ≡ Known command → ⊥) → Commute r x y
+NowhereCommutes = (r : Record) (x y : Input) → (no_zone r (goes_to r x) ≡ true) ⊎ ((command : Command) → input_read x ≡ Ok command → ⊥) → Commute r x y
 
 -- And so does whatever is refused when it comes first, a write to the same group too. `refused_commutes`, in proofs/Order.antt
 abbrev pub RefusedCommutes : Type 0

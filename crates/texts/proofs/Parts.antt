@@ -1,4 +1,5 @@
 -- The lines of a text in parts: what a text without a line feed comes to, one up to its first line feed, and one from an index on. Assumes nothing.
+use Rattle.std.specs.Prelude.{Option, Some}
 use Prim.Native.Nat.{ℕ, zero, suc, ◌+◌, ◌-◌, ◌≤◌, ◌<◌}
 use mathlib.Core.Path.{◌≡◌, refl, sym, ap, ◌∙◌}
 use mathlib.Core.Bool.{Bool, true, false}
@@ -11,8 +12,6 @@ use borrow.Author.Tests.{eqb-true, ltb-true, ltb-false}
 use Rattle.texts.specs.Texts.{index_of}
 use Rattle.texts.specs.Texts.{line_feed, ended_behind, begun_behind, ended, begun, unended, lines_of}
 use Rattle.texts.specs.Inner.{start_of}
-use Rattle.texts.specs.declared.decimals.Addressed.{Addressed}
-use Rattle.texts.specs.declared.decimals.Addressed.TheVariants.{To}
 
 pub by_test : {R : Type 0} (t : Bool) → (t ≡ true → R) → (t ≡ false → R) → R
 by_test true f g = f refl
@@ -172,5 +171,5 @@ next_line block at end h e = by_test (ltb end (length block)) (λ t. ended_here 
 -- ---- a zone with what is for it
 
 -- what is for a zone begins within the line
-pub begins_within : {a : Addressed} {zone start n : ℕ} → start_of a ≤ n → a ≡ To zone start → start ≤ n
+pub begins_within : {a : Option (ℕ × ℕ)} {zone start n : ℕ} → start_of a ≤ n → a ≡ Some (zone, start) → start ≤ n
 begins_within h e = rw e at h

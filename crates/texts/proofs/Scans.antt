@@ -1,50 +1,43 @@
--- What the search for a line feed cites, over the length of a part. Assumes nothing.
+-- What the searches cite: the library's search is that of the definitions, and parts without a line feed are passed. Assumes nothing.
 use Prim.Native.Nat.{ℕ, zero, suc, ◌+◌, ◌-◌, ◌≤◌, ◌<◌}
-use mathlib.Core.Path.{◌≡◌, sym}
+use mathlib.Core.Path.{◌≡◌, refl, sym}
 use mathlib.Core.Bool.{Bool, true, false, cond, ◌||◌, or_assoc, or-false}
-use mathlib.Core.List.{List, [], ◌∷◌}
+use mathlib.Core.List.{List, [], ◌∷◌, ◌++◌}
 use native.Mathlib.Omega.{arith}
 use native.Mathlib.Nat.{zero-add}
 use native.Mathlib.Numerals.{add-one}
-use lib.Dec.{eqb}
-use lib.ListN.{length, take, drop, get_or, length-drop, drop_of_length-le}
-use lib.Seq.{drop-cons, drop-drop}
-use Rattle.texts.specs.Texts.{index_of}
-use Rattle.zone.proofs.Tests.{neither}
-use Rattle.texts.specs.Texts.{line_feed}
+use lib.Dec.{eqb, ltb}
+use lib.ListN.{length, take, drop, get_or, drop_of_length-le, length-drop}
+use lib.Seq.{take_all, drop-cons}
+use borrow.Author.Tests.{ltb-false}
+use Rattle.std.specs.List.{position_or_len}
+use Rattle.std.specs.Option.{unwrap_or}
+use Rattle.std.proofs.Common.{Some, None}
+use Rattle.std.proofs.lemmas.List.Recursion.{is_position_or_len}
+use Rattle.std.proofs.lemmas.List.Sums.{prefix_len-le-length}
+use Rattle.texts.specs.Texts.{index_of, line_feed}
 use Rattle.texts.specs.Inner.{has_feed}
+use Rattle.zone.proofs.Tests.{neither}
 
--- ---- whether a line feed is among the bytes
+-- the part from an index on
+pub left : (l : List ℕ) (from : ℕ) → take (length l - from) (drop from l) ≡ drop from l
+left l from = take_all (length l - from) (drop from l) (rw length-drop (omega arith))
 
--- One byte more.
-pub has_more : (l : List ℕ) (i : ℕ) (t : Bool) → i < length l → (t || has_feed (drop i l)) ≡ has_feed l
-    → ((t || eqb (get_or l i 0) line_feed) || has_feed (drop (i + 1) l)) ≡ has_feed l
-unfolding has_feed
-has_more l i t h e = rw (add-one i, or_assoc t (eqb (get_or l i 0) line_feed) (has_feed (drop (suc i) l))) (rw (drop-cons l i 0 h) at e)
+-- ---- the library's search
 
-pub has_end : (l : List ℕ) (i : ℕ) (t : Bool) → length l ≤ i → (t || has_feed (drop i l)) ≡ has_feed l → t ≡ has_feed l
-unfolding has_feed
-has_end l i t h e = rw (drop_of_length-le l h, or-false t) at e
+-- its answer, or the length where there is none, is how many do not pass
+pub first_passes : {X : Type 0} (p : X → Bool) (l : List X) → unwrap_or (cond (ltb (position_or_len p l) (length l)) (Some (position_or_len p l)) None) (length l) ≡ position_or_len p l
+first_passes {X = X} p l = by_test (ltb (position_or_len p l) (length l)) refl
+  where
+    by_test : (t : Bool) → ltb (position_or_len p l) (length l) ≡ t → unwrap_or (cond t (Some (position_or_len p l)) None) (length l) ≡ position_or_len p l
+    by_test true e = refl
+    by_test false e = omega (arith, ltb-false (position_or_len p l) (length l) e, prefix_len-le-length {X = X})
 
--- ---- where the first one is
+pub index_is : (x : ℕ) (l : List ℕ) → index_of x l ≡ position_or_len (λ y. eqb y x) l
+unfolding index_of
+index_is x l = is_position_or_len (index_of x) (λ y. eqb y x) refl (λ y ys. let s : suc (index_of x ys) ≡ 1 + index_of x ys = omega arith in rw s) l
 
-passed : (k : ℕ) (l : List ℕ) → k ≤ length l → has_feed (take k l) ≡ false → index_of line_feed l ≡ k + index_of line_feed (drop k l)
-unfolding has_feed index_of
-passed zero l h e = sym (zero-add (index_of line_feed l))
-passed (suc k) [] h e = absurd (omega arith)
-passed (suc k) (x ∷ l) h e =
-    let n = neither (eqb x line_feed) (has_feed (take k l)) e in
-    rw n.0 (omega (arith, passed k l (omega arith) n.1))
-
--- A part of k bytes from index i on that has none is passed.
-pub feed_behind : (l : List ℕ) (i k : ℕ) → i + k ≤ length l → has_feed (take (i + k - i) (drop i l)) ≡ false
-    → i + index_of line_feed (drop i l) ≡ i + k + index_of line_feed (drop (i + k) l)
-feed_behind l i k h e =
-    let n : i + k - i ≡ k = omega arith in
-    let p = passed k (drop i l) (omega (arith, length-drop i l)) (rw n at e) in
-    rw (← drop-drop k i l) (omega (arith, p))
-
--- ---- one byte at a time
+-- ---- the same byte by byte
 
 -- a byte that is not x is passed
 pub find_more : (x : ℕ) (l : List ℕ) (from i : ℕ) → i < length l → eqb (get_or l i 0) x ≡ false
@@ -67,3 +60,22 @@ pub find_end : (x : ℕ) (l : List ℕ) (from i : ℕ) → length l ≤ i
     → from + index_of x (drop from l) ≡ i + index_of x (drop i l) → i ≡ from + index_of x (drop from l)
 unfolding index_of
 find_end x l from i h p = omega (arith, rw (drop_of_length-le l h) at p)
+
+-- ---- whether a line feed is among the bytes
+
+-- one byte more
+pub has_more : (l : List ℕ) (x : ℕ) → has_feed (l ++ (x ∷ [])) ≡ (has_feed l || eqb x line_feed)
+unfolding has_feed
+has_more [] x = or-false (eqb x line_feed)
+has_more (y ∷ l) x = rw (has_more l x) (sym (or_assoc (eqb y line_feed) (has_feed l) (eqb x line_feed)))
+
+-- ---- where the first one is
+
+-- the first k bytes are passed where none of them is one
+pub passed : (k : ℕ) (l : List ℕ) → k ≤ length l → has_feed (take k l) ≡ false → index_of line_feed l ≡ k + index_of line_feed (drop k l)
+unfolding has_feed index_of
+passed zero l h e = sym (zero-add (index_of line_feed l))
+passed (suc k) [] h e = absurd (omega arith)
+passed (suc k) (x ∷ l) h e =
+    let n = neither (eqb x line_feed) (has_feed (take k l)) e in
+    rw n.0 (omega (arith, passed k l (omega arith) n.1))

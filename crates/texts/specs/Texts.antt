@@ -1,7 +1,5 @@
 -- The lines of a text, and the fields of a line: where a line feed ends the one and a tab the other; a zone with what is for it; and a reply as it stands in a line.
-use Rattle.std.specs.Prelude.{ℕ, suc, cond, List, [], ◌∷◌, ◌++◌, take, drop, eqb}
-use Rattle.wire.specs.declared.Figure.{Figure}
-use Rattle.wire.specs.declared.Figure.TheVariants.{Value, Bad}
+use Rattle.std.specs.Prelude.{ℕ, suc, cond, List, [], ◌∷◌, ◌++◌, take, drop, eqb, None, Option, Some}
 use Rattle.texts.specs.Numbers.{decimal_of}
 
 abbrev pub line_feed : ℕ
@@ -57,10 +55,10 @@ pub data Zoned : Type 0 where
   to : ℕ → List ℕ → Zoned
   lacking : Zoned
 
-abbrev pub zoned_by : Figure → List ℕ → Zoned
-zoned_by Bad l = lacking
-zoned_by (Value zone) [] = lacking
-zoned_by (Value zone) (its_tab ∷ command) = to zone command
+abbrev pub zoned_by : Option ℕ → List ℕ → Zoned
+zoned_by None l = lacking
+zoned_by (Some zone) [] = lacking
+zoned_by (Some zone) (its_tab ∷ command) = to zone command
 
 -- the zone is the decimal in front, and the command "all that follows" its tab, "perhaps nothing"
 unfoldable pub zoned : List ℕ → Zoned

@@ -7,6 +7,6 @@ mod decimals;
 mod hexadecimal;
 mod lines;
 
-pub use decimals::{Addressed, Numeral, behind_tab, zone_at};
-pub use hexadecimal::{Count, digit_values, put_hex, unhex};
+pub use decimals::{behind_tab, zone_at};
+pub use hexadecimal::{digit_values, put_hex, unhex};
 pub use lines::line_end;

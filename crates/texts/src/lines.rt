@@ -9,27 +9,15 @@ pub(crate) fn find(bytes: &[u8], from: usize, x: u8) -> usize
     ensures place { result ≡ from + index_of x (drop from bytes.now) }
     ensures bound { result ≤ length bytes.now }
 {
-    let mut i = from;
-    while i < bytes.len() {
-        if bytes[i] == x {
-            return i;
-        }
-        i += 1;
-    }
-    i
+    let left = &bytes[from..];
+    from + left.iter().position(|y| *y == x).unwrap_or(left.len())
 }
 
 // Whether a line feed is among the bytes. Every byte is looked at, so that many can be at once.
-fn has_feed(part: &[u8]) -> bool
+fn has_feed(part: &[u8; 16]) -> bool
     ensures { result ≡ has_feed part.now }
 {
-    let mut found = false;
-    let mut i = 0;
-    while i < part.len() {
-        found = found | (part[i] == b'\n');
-        i += 1;
-    }
-    found
+    part.iter().fold(false, |found, x| found | (*x == b'\n'))
 }
 
 // The index of the first line feed from `from` on, or the block's length. Parts of sixteen bytes without one are passed
@@ -38,12 +26,12 @@ pub fn line_end(block: &[u8], from: usize) -> usize
     requires { from ≤ length block.now }
     ensures { result ≡ from + index_of line_feed (drop from block.now) }
 {
-    let mut i = from;
-    while 16 <= block.len() - i {
-        if has_feed(&block[i..i + 16]) {
-            return find(block, i, b'\n');
+    let mut at = from;
+    while let Some(part) = block[at..].first_chunk::<16>() {
+        if has_feed(part) {
+            break;
         }
-        i += 16;
+        at += 16;
     }
-    find(block, i, b'\n')
+    find(block, at, b'\n')
 }

@@ -1,3 +1,4 @@
 pub mod Choices
 pub mod Layouts
 pub mod Room
+pub mod Chunks

@@ -3,14 +3,9 @@ use Prim.Native.Nat.{ℕ, ◌+◌, ◌-◌, ◌≤◌}
 use mathlib.Core.Path.{◌≡◌, sym}
 use mathlib.Core.List.{List, ◌++◌, append_assoc, append-nil}
 use native.Mathlib.Omega.{arith}
-use native.Mathlib.Nat.{zero-add}
 use lib.ListN.{length, take, drop, length-append, length-drop, drop_of_length-le}
 use lib.Seq.{take-append_seam, drop-append-add, drop-drop, take_all}
-use Rattle.wire.specs.Room.{filled, placed}
-
-pub placed_first : (room xs : List ℕ) → placed room 0 xs ≡ filled xs room
-unfolding placed
-placed_first room xs = rw (zero-add (length xs))
+use Rattle.wire.specs.Room.{filled, Filled, placed}
 
 -- bytes behind those at the front
 pub placed_next : (xs ys room : List ℕ) → placed (filled xs room) (length xs) ys ≡ filled (xs ++ ys) room
@@ -33,3 +28,10 @@ pub room_left : (room : List ℕ) (at n : ℕ) → at + n ≤ length room → n 
 room_left room at n fits =
     let all : length (drop at room) ≤ length room - at = rw length-drop (omega arith) in
     rw (take_all (length room - at) (drop at room) all, length-drop) (omega arith)
+
+-- bytes put behind those that fill the front fill it with them
+pub put_behind : (xs ys before now next : List ℕ) (n : ℕ) → Filled xs before now n → next ≡ placed now n ys → Filled (xs ++ ys) before next (n + length ys)
+put_behind xs ys before now next n f e = record {
+  count = rw (f.count, length-append xs ys);
+  contents = rw (e, f.contents, f.count) (placed_next xs ys before);
+}

@@ -1,5 +1,5 @@
 -- A command in bytes, said once for both roads. A road says how wide a figure is, how it is written and how it is read; the table says the rest.
-use Rattle.std.specs.Prelude.{ℕ, ◌+◌, Bool, true, cond, List, [], ◌∷◌, ◌++◌, length, ltb, eqb}
+use Rattle.std.specs.Prelude.{ℕ, ◌+◌, Bool, true, cond, List, [], ◌∷◌, ◌++◌, length, ltb, eqb, Option, Some, None, Result, Ok, Err}
 use Rattle.zone.specs.declared.figures.Group.{Group}
 use Rattle.zone.specs.declared.figures.Figures.{Figures}
 use Rattle.zone.specs.declared.figures.Command.{Command}
@@ -7,10 +7,8 @@ use Rattle.zone.specs.declared.figures.Command.TheVariants.{Read, Write}
 use Rattle.zone.specs.Lists.{every, total}
 use Rattle.zone.specs.Table.{Kind, Column, Form, layout, forms_of}
 use Rattle.zone.specs.Figures.{Entry, entries_of, made}
-use Rattle.wire.specs.declared.Figure.{Figure}
-use Rattle.wire.specs.declared.Figure.TheVariants.{Value, Bad}
-use Rattle.wire.specs.declared.Parsed.{Parsed}
-use Rattle.wire.specs.declared.Parsed.TheVariants.{Known, Unknown, Syntax}
+use Rattle.wire.specs.declared.Misread.{Misread}
+use Rattle.wire.specs.declared.Misread.TheVariants.{Syntax, Unknown}
 
 pub record Road : Type 0 where
   -- the bytes before the figures: letter and name, or address, function and index
@@ -23,7 +21,7 @@ pub record Road : Type 0 where
   pub bound : Kind → ℕ
   -- the bytes of a number, and what is found in bytes from an index on
   pub bytes_for : Kind → ℕ → List ℕ
-  pub found_at : Kind → List ℕ → ℕ → Figure
+  pub found_at : Kind → List ℕ → ℕ → Option ℕ
 
 -- ---- writing
 
@@ -56,15 +54,19 @@ length_of road form = road.head + total (λ k. road.width k.kind) (layout form).
 
 -- ---- reading
 
+-- what a line, or the body of a frame, is found to be: a command, or why it is none
+abbrev pub Parsed : Type 0
+Parsed = Result Command Misread
+
 -- the numbers of a layout, or none where one of them is no figure
 pub data Numbers : Type 0 where
   are : List ℕ → Numbers
   none : Numbers
 
-abbrev pub join : Figure → Numbers → Numbers
-join Bad ns = none
-join (Value n) none = none
-join (Value n) (are ns) = are (n ∷ ns)
+abbrev pub join : Option ℕ → Numbers → Numbers
+join None ns = none
+join (Some n) none = none
+join (Some n) (are ns) = are (n ∷ ns)
 
 -- the numbers of a layout, one behind the other from index `at` on
 abbrev pub numbers_at : Road → List Column → List ℕ → ℕ → Numbers
@@ -73,8 +75,8 @@ numbers_at road (k ∷ ks) l at = join (road.found_at k.kind l at) (numbers_at r
 
 -- what a form is read as
 abbrev pub read_as : Form → Numbers → Parsed
-read_as form none = Syntax
-read_as form (are ns) = Known (Write (made form ns))
+read_as form none = Err Syntax
+read_as form (are ns) = Ok (Write (made form ns))
 
 -- a write in that form: its figures stand behind the head
 unfoldable pub form_read : Road → Form → List ℕ → Parsed
@@ -82,12 +84,12 @@ form_read road form l = read_as form (numbers_at road (layout form).columns l ro
 
 -- the form is the one that has the length; "wrong length" is a syntax error
 unfoldable pub write_read : Road → List Form → List ℕ → Parsed
-write_read road [] l = Syntax
+write_read road [] l = Err Syntax
 write_read road (form ∷ forms) l = cond (eqb (length l) (length_of road form)) (form_read road form l) (write_read road forms l)
 
 -- a command to a known group, by its mark, the letter or the function. A read is the head alone and a write has its figures behind it; other lengths are syntax errors.
 -- Every other mark is unknown: "A request with function 00, or a line with first letter A, counts as unknown (house)"
 abbrev pub command_read : Road → ℕ → Group → List ℕ → Parsed
 command_read road mark group l =
-    cond (eqb mark road.reads) (cond (eqb (length l) road.head) (Known (Read group)) Syntax)
-    (cond (eqb mark road.writes) (write_read road (forms_of group) l) Unknown)
+    cond (eqb mark road.reads) (cond (eqb (length l) road.head) (Ok (Read group)) (Err Syntax))
+    (cond (eqb mark road.writes) (write_read road (forms_of group) l) (Err Unknown))

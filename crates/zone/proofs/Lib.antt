@@ -5,5 +5,6 @@ pub mod Made
 pub mod Written
 pub mod Order
 pub mod Sound
+pub mod Empty
 pub mod Mended
 pub mod InUse

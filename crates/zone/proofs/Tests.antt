@@ -24,6 +24,12 @@ pub not_so : (t : Bool) → (t ≡ true → ⊥) → t ≡ false
 not_so true u = absurd (u refl)
 not_so false u = refl
 
+-- two tests that pass together are one
+pub alike : (t u : Bool) → (t ≡ true → u ≡ true) → (u ≡ true → t ≡ true) → t ≡ u
+alike true u f g = sym (f refl)
+alike false true f g = g refl
+alike false false f g = refl
+
 pub and_false : (t : Bool) → (t && false) ≡ false
 and_false true = refl
 and_false false = refl

@@ -5,7 +5,7 @@ ghost use Rattle.zone.specs.Lists.{within};
 ghost use Rattle.zone.specs.Inner.{five, five_fit};
 ghost use Rattle.zone.specs.Zones.{lockable};
 
-#[derive(Clone, Copy)]
+#[derive(Clone, Copy, PartialEq, Eq)]
 pub enum Group {
     Ahue,
     Hzbg,
@@ -13,7 +13,7 @@ pub enum Group {
     Solw,
 }
 
-#[derive(Clone, Copy)]
+#[derive(Clone, Copy, Default, PartialEq, Eq)]
 pub struct DeadlineFigures {
     pub flag: u32,
     pub lower: u32,
@@ -21,7 +21,7 @@ pub struct DeadlineFigures {
     pub time: u32,
 }
 
-#[derive(Clone, Copy)]
+#[derive(Clone, Copy, Default, PartialEq, Eq)]
 pub struct WindowFigures {
     pub flag: u32,
     pub lower: u32,
@@ -30,25 +30,25 @@ pub struct WindowFigures {
     pub end: u32,
 }
 
-#[derive(Clone, Copy)]
+#[derive(Clone, Copy, Default, PartialEq, Eq)]
 pub struct LimitFigures {
     pub time: u32,
 }
 
-#[derive(Clone, Copy)]
+#[derive(Clone, Copy, Default, PartialEq, Eq)]
 pub struct ReferenceFigures {
     pub flag: u32,
     pub lower: u32,
     pub upper: u32,
 }
 
-#[derive(Clone, Copy)]
+#[derive(Clone, Copy, Default, PartialEq, Eq)]
 pub struct SetpointFigures {
     pub setpoint: u32,
 }
 
 // The figures of a group, in one of the table's forms.
-#[derive(Clone, Copy)]
+#[derive(Clone, Copy, PartialEq, Eq)]
 pub enum Figures {
     AhueDeadline(DeadlineFigures),
     AhueWindow(WindowFigures),
@@ -57,7 +57,7 @@ pub enum Figures {
     SolwSetpoint(SetpointFigures),
 }
 
-#[derive(Clone, Copy)]
+#[derive(Clone, Copy, PartialEq, Eq)]
 pub enum Command {
     Read(Group),
     Write(Figures),
@@ -68,17 +68,12 @@ impl Group {
     pub fn lockable(self) -> bool
         ensures { result ≡ lockable self }
     {
-        match self {
-            Group::Ahue => true,
-            Group::Hzbg => true,
-            Group::Rrue => true,
-            Group::Solw => false,
-        }
+        self != Group::Solw
     }
 }
 
 // A figure with its range.
-#[derive(Clone, Copy)]
+#[derive(Clone, Copy, PartialEq, Eq)]
 pub struct Ranged {
     pub number: u32,
     pub lowest: u32,
@@ -89,9 +84,9 @@ fn figure(number: u32, lowest: u32, highest: u32) -> Ranged
     ensures { result ≡ record { number = number; lowest = lowest; highest = highest } }
 {
     Ranged {
-        number: number,
-        lowest: lowest,
-        highest: highest,
+        number,
+        lowest,
+        highest,
     }
 }
 
@@ -108,8 +103,7 @@ impl Figures {
         ensures { result ≡ group_of self }
     {
         match self {
-            Figures::AhueDeadline(_) => Group::Ahue,
-            Figures::AhueWindow(_) => Group::Ahue,
+            Figures::AhueDeadline(_) | Figures::AhueWindow(_) => Group::Ahue,
             Figures::HzbgLimit(_) => Group::Hzbg,
             Figures::RrueReference(_) => Group::Rrue,
             Figures::SolwSetpoint(_) => Group::Solw,
@@ -117,7 +111,7 @@ impl Figures {
     }
 
     // The figures in order, each with its range in a zone of that temperature range. A row of fewer
-    // than five has zeros behind them, in a range of zero to zero.
+    // than five has zeros behind them, in a range of zero to zero: all rows have one size, without a heap.
     pub fn row(self, range: u32) -> [Ranged; 5]
         ensures { result ≡ five range self }
     {
@@ -153,21 +147,15 @@ impl Figures {
     pub fn fits(self, range: u32) -> [bool; 5]
         ensures { result ≡ five_fit range self }
     {
-        let row = self.row(range);
-        let a = row[0];
-        let b = row[1];
-        let c = row[2];
-        let d = row[3];
-        let e = row[4];
-        [a.fits(), b.fits(), c.fits(), d.fits(), e.fits()]
+        self.row(range).map(Ranged::fits)
     }
 
     // Each figure lies in its own range, in a zone of that temperature range.
     pub fn each_in_range(self, range: u32) -> bool
         ensures { result ≡ each_in_range range self }
     {
-        let fits = self.fits(range);
-        fits[0] & fits[1] & fits[2] & fits[3] & fits[4]
+        let [a, b, c, d, e] = self.fits(range);
+        a & b & c & d & e
     }
 
     // A window opens before it closes; the other forms have no such rule.
@@ -175,34 +163,29 @@ impl Figures {
         ensures { result ≡ opens self }
     {
         match self {
-            Figures::AhueDeadline(_) => true,
             Figures::AhueWindow(f) => f.begin < f.end,
-            Figures::HzbgLimit(_) => true,
-            Figures::RrueReference(_) => true,
-            Figures::SolwSetpoint(_) => true,
+            _ => true,
         }
     }
 
     // Each figure lies in its own range, and the row's rule is kept.
+    #[tactic(auto, unfolding(crate::specs::Figures::in_range))]
     pub fn in_range(self, range: u32) -> bool
         ensures { result ≡ in_range range self }
     {
         self.each_in_range(range) & self.opens()
     }
 
+    #[tactic(auto, unfolding(crate::specs::Figures::all_zero))]
     pub fn all_zero(self) -> bool
         ensures { result ≡ all_zero self }
     {
         match self {
-            Figures::AhueDeadline(f) => {
-                (f.flag == 0) & (f.lower == 0) & (f.upper == 0) & (f.time == 0)
-            }
-            Figures::AhueWindow(f) => {
-                (f.flag == 0) & (f.lower == 0) & (f.upper == 0) & (f.begin == 0) & (f.end == 0)
-            }
-            Figures::HzbgLimit(f) => f.time == 0,
-            Figures::RrueReference(f) => (f.flag == 0) & (f.lower == 0) & (f.upper == 0),
-            Figures::SolwSetpoint(f) => f.setpoint == 0,
+            Figures::AhueDeadline(f) => f == DeadlineFigures::default(),
+            Figures::AhueWindow(f) => f == WindowFigures::default(),
+            Figures::HzbgLimit(f) => f == LimitFigures::default(),
+            Figures::RrueReference(f) => f == ReferenceFigures::default(),
+            Figures::SolwSetpoint(f) => f == SetpointFigures::default(),
         }
     }
 }

@@ -1,29 +1,19 @@
 // Who sets the temperature: the interface, by commands, or the voltage at a zone's input.
 ghost use Rattle.std.specs.Prelude.{◌≡◌, ◌≤◌};
-ghost use Rattle.zone.specs.Sources.{input_in_range, is_interface, is_new, by_voltage};
+ghost use Rattle.zone.specs.Sources.{input_in_range, is_new, by_voltage};
 
-#[derive(Clone, Copy)]
+#[derive(Clone, Copy, Default, PartialEq, Eq)]
 pub enum Source {
+    #[default]
     Interface,
     Voltage,
 }
 
 // Where a zone's setpoint in use comes from: the chosen source, and the voltage at its input.
-#[derive(Clone, Copy)]
+#[derive(Clone, Copy, Default, PartialEq, Eq)]
 pub struct Origin {
     pub source: Source,
     pub millivolts: u32,
-}
-
-impl Source {
-    fn is_interface(self) -> bool
-        ensures { result ≡ is_interface self }
-    {
-        match self {
-            Source::Interface => true,
-            Source::Voltage => false,
-        }
-    }
 }
 
 impl Origin {
@@ -31,8 +21,7 @@ impl Origin {
     pub fn is_new(self) -> bool
         ensures { result ≡ is_new self }
     {
-        let source = self.source;
-        source.is_interface() & (self.millivolts == 0)
+        self == Origin::default()
     }
 }
 

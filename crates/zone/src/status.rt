@@ -4,25 +4,26 @@ ghost use Rattle.zone.specs.Zones.{state_numbered, is_off, locks, actual_in_rang
 
 use crate::figures::Group;
 
-#[derive(Clone, Copy)]
+#[derive(Clone, Copy, Default, PartialEq, Eq)]
 pub enum State {
+    #[default]
     Off,
     On,
     Calibration,
     Error,
 }
 
-#[derive(Clone, Copy)]
+#[derive(Clone, Copy, Default, PartialEq, Eq)]
 pub struct Status {
     pub state: State,
     pub actual: u32,
 }
 
-impl State {
-    // The state of that number; a number above 3, which no report gets as far as, is Error.
-    pub fn numbered(number: u32) -> State
-        ensures { result ≡ state_numbered number }
-    {
+// The state of that number; a number above 3, which no report gets as far as, is Error.
+impl From<u32> for State {
+    ghost from_gives = { λ number state. state ≡ state_numbered number };
+
+    fn from(number: u32) -> State {
         match number {
             0 => State::Off,
             1 => State::On,
@@ -30,28 +31,23 @@ impl State {
             _ => State::Error,
         }
     }
+}
 
+impl State {
     // A write of the group is not permitted in this state.
     pub fn locks(self, group: Group) -> bool
         ensures { result ≡ locks self group }
     {
         match self {
-            State::Off => false,
-            State::On => group.lockable(),
-            State::Calibration => group.lockable(),
-            State::Error => false,
+            State::On | State::Calibration => group.lockable(),
+            State::Off | State::Error => false,
         }
     }
 
     pub fn is_off(self) -> bool
         ensures { result ≡ is_off self }
     {
-        match self {
-            State::Off => true,
-            State::On => false,
-            State::Calibration => false,
-            State::Error => false,
-        }
+        self == State::Off
     }
 }
 

@@ -6,4 +6,4 @@ use Rattle.cardload.proofs.load.Goals as goal
 pub say_loaded-filled-requires : goal.say_loaded-filled-requires
 say_loaded-filled-requires g c =
     let a = c.args in
-    (c.requires.0, omega (arith, c.requires.1), rw c.load-loaded.ensures (loads_in_bounds a.r a.recipe.now a.room.now))
+    (c.requires, omega arith, rw c.load-loaded.ensures (loads_in_bounds a.r a.recipe.now a.room.now))

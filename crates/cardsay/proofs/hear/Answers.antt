@@ -21,12 +21,12 @@ room_left line held x h e =
     let n : length (take held line ++ (x ∷ [])) ≤ 601 = rw (length-append, length-take) (omega arith) in
     rw (add-one held, take_all 601 (take held line ++ (x ∷ [])) n) (take-suc-set line held x (omega (arith, e)))
 
-pub returns-then-held-eq601-clause-hears : goal.returns-then-held-eq601-clause-hears
-returns-then-held-eq601-clause-hears g c =
+pub returns-then-held-eq601 : goal.returns-then-held-eq601
+returns-then-held-eq601 g c =
     let a = c.args in
-    grew c.if-x-eq10.false refl refl (rw c.if-held-eq601.true (full a.line.now a.x c.requires.1))
+    grew c.if-x-eq10.false refl refl (rw c.if-held-eq601.true (full a.line.now a.x c.told-line))
 
-pub returns-clause-hears : goal.returns-clause-hears
-returns-clause-hears g c =
+pub returns : goal.returns
+returns g c =
     let a = c.args in
-    grew c.if-x-eq10.false refl refl (room_left a.line.now a.before.held a.x (omega (arith, c.if-held-eq601.false, c.requires.0)) c.requires.1)
+    grew c.if-x-eq10.false refl refl (room_left a.line.now a.state.now.held a.x (omega arith) c.told-line)

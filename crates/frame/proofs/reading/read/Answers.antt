@@ -29,22 +29,22 @@ returns-then-frame c =
 
 pub returns-then-frame-l : goal.returns-then-frame-l
 returns-then-frame-l c =
-    no_length c.args.frame.now c.wide-l.result c.wide-l.ensures c.if-frame-lt9.false c.if-frame-ne104.false c.if-frame-ne104-2.false c.if-frame.false c.if-frame-l.true
+    no_length c.args.frame.now c.from-l.result c.from-l.ensures c.if-frame-lt9.false c.if-frame-ne104.false c.if-frame-ne104-2.false c.if-frame.false c.if-frame-l.true
 
 pub returns-then-frame-l-ne22 : goal.returns-then-frame-l-ne22
 returns-then-frame-l-ne22 c =
-    no_end c.args.frame.now c.wide-l.result c.wide-l.ensures c.if-frame-lt9.false c.if-frame-ne104.false c.if-frame-ne104-2.false c.if-frame.false c.if-frame-l.false c.if-frame-l-ne22.true
+    no_end c.args.frame.now c.from-l.result c.from-l.ensures c.if-frame-lt9.false c.if-frame-ne104.false c.if-frame-ne104-2.false c.if-frame.false c.if-frame-l.false c.if-frame-l-ne22.true
 
 pub returns-then-checksum-frame : goal.returns-then-checksum-frame
 returns-then-checksum-frame c =
     let f = c.args.frame.now in
-    let sum = c.checksum.ensures ∙ ap (λ (k : ℕ). checksum_of (take k (drop 4 f))) (add-sub_cancel_left 4 c.wide-l.result) in
-    no_sum f c.wide-l.result c.wide-l.ensures c.if-frame-lt9.false c.if-frame-ne104.false c.if-frame-ne104-2.false c.if-frame.false c.if-frame-l.false c.if-frame-l-ne22.false (λ q. c.if-checksum-frame.true (sum ∙ q))
+    let sum = c.checksum.ensures ∙ ap (λ (k : ℕ). checksum_of (take k (drop 4 f))) (add-sub_cancel_left 4 c.from-l.result) in
+    no_sum f c.from-l.result c.from-l.ensures c.if-frame-lt9.false c.if-frame-ne104.false c.if-frame-ne104-2.false c.if-frame.false c.if-frame-l.false c.if-frame-l-ne22.false (λ q. c.if-checksum-frame.true (sum ∙ q))
 
 pub returns : goal.returns
 returns c =
     let f = c.args.frame.now in
-    let part = add-sub_cancel_left 4 c.wide-l.result in
+    let part = add-sub_cancel_left 4 c.from-l.result in
     let sum = c.checksum.ensures ∙ ap (λ (k : ℕ). checksum_of (take k (drop 4 f))) part in
     ap (Request (get_or f 4 0)) (c.request.ensures ∙ ap (λ (k : ℕ). body_read (take k (drop 4 f))) part)
-    ∙ whole f c.wide-l.result c.wide-l.ensures c.if-frame-lt9.false c.if-frame-ne104.false c.if-frame-ne104-2.false c.if-frame.false c.if-frame-l.false c.if-frame-l-ne22.false (sym sum ∙ c.if-checksum-frame.false)
+    ∙ whole f c.from-l.result c.from-l.ensures c.if-frame-lt9.false c.if-frame-ne104.false c.if-frame-ne104-2.false c.if-frame.false c.if-frame-l.false c.if-frame-l-ne22.false (sym sum ∙ c.if-checksum-frame.false)

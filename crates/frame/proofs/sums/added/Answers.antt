@@ -1,13 +1,17 @@
--- One byte more: the invariant's equation by `sum_more`; a byte is below 256.
-use native.Mathlib.Omega.{arith}
-use Rattle.frame.proofs.SumLaws.{sum_more, sum_end}
+-- The sum of the bytes as the library has it; so few bytes do not overflow it.
+use Rattle.std.proofs.Common.{rules, ◌≡◌, ◌≤◌, ◌*◌, arith, length, sum}
+use Rattle.std.proofs.lemmas.Grind.{common_steps}
+use Rattle.std.proofs.lemmas.List.Sums.{sum_by-le}
+use Rattle.frame.proofs.SumLaws.{sum_is}
 use Rattle.frame.proofs.sums.added.Goals as goal
 
-pub loop-i-preserved : goal.loop-i-preserved
-loop-i-preserved c =
-    let i = c.loop-i in
-    let b = c.args.part.now in
-    (omega arith, omega (arith, c.wide-total.ensures, c.type_inv.part i.i), rw c.wide-total.ensures (sum_more b i.i i.total _ c.loop-i-test.true i.invariant.2))
+pub overflow_add-result : goal.overflow_add-result
+overflow_add-result c =
+    let e : c.sum.result ≡ sum c.args.part.now = search rules in
+    let b : sum c.args.part.now ≤ length c.args.part.now * 255 = grind (arith, common_steps, sum_by-le) in
+    omega arith
 
 pub returns : goal.returns
-returns c = sum_end c.args.part.now c.loop-i.i c.loop-i.total _ c.loop-i-test.false c.loop-i.invariant.2
+returns c =
+    let e : c.sum.result ≡ sum c.args.part.now = search rules in
+    rw (e, sum_is c.args.part.now)

@@ -7,7 +7,7 @@ pub returns-in_default : goal.returns-in_default
 returns-in_default c = rw (no_decimal 0 _ 1 (sym c.behind_tab.ensures ∙ c.in_default.is))
 
 pub returns-then-i-line : goal.returns-then-i-line
-returns-then-i-line c = rw (decimal_behind 0 _ 1 _ _ (sym c.in-Is.ensures), too_many _ _ c.if-i-line.true)
+returns-then-i-line c = rw (decimal_behind 0 _ 1 _ _ (sym c.behind_tab.ensures ∙ c.in-Some.is), too_many _ _ c.if-i-line.true)
 
 pub returns : goal.returns
-returns c = rw (decimal_behind 0 _ 1 _ _ (sym c.in-Is.ensures), no_more _ _ c.if-i-line.false)
+returns c = rw (decimal_behind 0 _ 1 _ _ (sym c.behind_tab.ensures ∙ c.in-Some.is), no_more _ _ c.if-i-line.false)

@@ -1,5 +1,4 @@
 -- The ended lines are answered, and what stands behind them is kept.
-use native.Mathlib.Nat.{sub-zero}
 use lib.ListN.{take}
 use Rattle.journal.specs.Inner.{Worked}
 use Rattle.journal.proofs.Texts.{fed_seen}
@@ -9,5 +8,5 @@ pub returns-clause-buffer_after : goal.returns-clause-buffer_after
 returns-clause-buffer_after c =
     let a = c.args in
     let text = take a.end a.buffer.now in
-    let w : Worked a.given text _ c.lines-done.result = rw (sub-zero a.end) at c.lines-done.ensures in
-    fed_seen a.given text _ _ c.lines-done.result c.keep-held.result w c.keep-held.ensures.buffer_after
+    let w : Worked a.given text _ c.lines-done.result = c.lines-done.ensures in
+    fed_seen a.given text _ _ c.lines-done.result c.keep.result w c.keep.ensures.buffer_after

@@ -1,5 +1,5 @@
 -- A turn writes what its line yields behind the output so far and stores the zone that the line leaves; the rest of the block is still to come.
-use Prim.Native.Nat.{◌+◌, ◌-◌, ◌≤◌, ◌<◌}
+use Prim.Native.Nat.{ℕ, ◌+◌, ◌-◌, ◌≤◌, ◌<◌}
 use mathlib.Core.Path.{◌≡◌, sym, ap, ◌∙◌}
 use native.Mathlib.Omega.{arith}
 use lib.ListN.{length, take, drop, length-drop}
@@ -9,7 +9,7 @@ use Rattle.card.specs.Answers.{number_of, values_of}
 use Rattle.card.specs.Inner.{answer_by, after_by}
 use Rattle.card.proofs.Inner.{unaltered}
 use Rattle.texts.proofs.Parts.{turn_ended, turn_begun, last_ended, last_begun}
-use Rattle.journal.specs.declared.judging.Sought.{Sought}
+use Rattle.std.proofs.Common.{Option}
 use Rattle.journal.specs.Journal.{Yield, line_yields}
 use Rattle.journal.specs.Inner.{sought_of, look_up, output_of}
 use Rattle.journal.proofs.Judged.{sound_kept, turn_yields}
@@ -17,11 +17,11 @@ use Rattle.journal.proofs.Bounds.{eight_so_far}
 use Rattle.journal.proofs.Texts.{ahead_turn, ahead_none, written_on, fits_behind}
 use borrow.Author.Rules.{rules}
 use Rattle.journal.proofs.blocks.lines.Goals as goal
-use Rattle.journal.proofs.blocks.lines.Goals.{in-Nobody, in-Address, then-alters, else-alters}
+use Rattle.journal.proofs.blocks.lines.Goals.{in-None, in-Some, then-alters, else-alters}
 
-pub loop-values-preserved : goal.loop-values-preserved
-loop-values-preserved c =
-    let t = c.loop-values in
+pub loop-reader-preserved : goal.loop-reader-preserved
+loop-reader-preserved c =
+    let t = c.loop-reader in
     let block = c.args.block.now in
     let end = c.line_end-end.result in
     let h : end < length block = c.if-block-end.false in
@@ -33,39 +33,39 @@ loop-values-preserved c =
     let small : k ≤ 40 = c.put_judged-filled.ensures.upper_bound in
     let room : t.filled + 40 ≤ length t.out = fits_behind t.at t.filled block t.out t.invariant.0 t.invariant.1 (rw t.invariant.2 c.requires) in
     -- where the entry looks, and what is stored there
-    let asked_for : (s : Sought) → c.whom.result ≡ s → look_up t.r s ≡ look_up t.r (sought_of entry) = λ s e. ap (λ (x : Sought). look_up t.r x) (sym e ∙ c.whom.ensures) in
+    let asked_for : (s : Option ℕ) → c.whom.result ≡ s → look_up t.r s ≡ look_up t.r (sought_of entry) = λ s e. ap (λ (x : Option ℕ). look_up t.r x) (sym e ∙ c.whom.ensures) in
     let sought : c.match-whom.found ≡ look_up t.r (sought_of entry) =
-    elim c.match-whom.branch [ in-Nobody w ↦ w.found-is ∙ asked_for _ w.in-Nobody.is | in-Address w ↦ (w.found-is ∙ w.find-found.ensures) ∙ asked_for _ w.in-Address.is ] in
+    elim c.match-whom.branch [ in-None w ↦ w.found-is ∙ asked_for _ w.in-None.is | in-Some w ↦ (w.found-is ∙ w.find-found.ensures) ∙ asked_for _ w.in-Some.is ] in
     let zone_stored : c.if-alters.r ≡ with_zone t.r n (after_by v (zone_at t.r n)) =
     elim c.if-alters.branch [ then-alters w ↦ w.r-is ∙ rw w.after.ensures | else-alters w ↦ w.r-is ∙ sym (unaltered t.r n v (sym c.alters.ensures ∙ w.if-alters.false)) ] in
     -- so the line is judged as it is to be
     let yields : line_yields t.r line ≡ record { output = output_of entry (number_of (answer_by v)) (values_of (answer_by v)); after = c.if-alters.r } =
-    turn_yields t.r c.if-alters.r line c.is_sound-fit.result entry c.match-whom.found n v c.asks-entry.ensures sought c.place-n.ensures t.invariant.4 c.judged-verdict.ensures zone_stored in
+    turn_yields t.r c.if-alters.r line c.is_sound-fit.result entry c.match-whom.found n v c.asks-entry.ensures sought c.place-n.ensures.value t.invariant.3 c.judged-verdict.ensures zone_stored in
     let wide : length line ≡ end - t.at = length-take-le (end - t.at) (drop t.at block) (rw length-drop (omega arith)) in
     let within = eight_so_far entry _ _ line _ _ t.at end t.filled k c.asks-entry.ensures wide (omega (arith, c.line_end-end.ensures)) c.put_judged-filled.ensures.filled t.invariant.1 in
-    let sound_still = t.invariant.4 ∙ sym (sound_kept t.r line) ∙ ap (λ (y : Yield). sound y.after) yields in
+    let sound_still = t.invariant.3 ∙ sym (sound_kept t.r line) ∙ ap (λ (y : Yield). sound y.after) yields in
     let ahead = ahead_turn c.args.given t.r c.if-alters.r block (take t.filled t.out) _ (drop t.at block) (drop (end + 1) block) line _
-    t.invariant.5
+    t.invariant.4
     (turn_ended block t.at end t.invariant.0 c.line_end-end.ensures h)
     (turn_begun block t.at end t.invariant.0 c.line_end-end.ensures h)
     yields
     (written_on t.out _ _ t.filled k (omega arith) c.put_judged-filled.ensures.filled) in
-    (omega arith, omega (arith, within), search rules, search rules, sound_still, ahead)
+    (omega arith, omega (arith, within), search rules, sound_still, ahead)
 
 -- ---- the end of the block
 
 pub returns : goal.returns
 returns c =
-    let t = c.loop-values in
+    let t = c.loop-reader in
     let block = c.args.block.now in
     let end = c.line_end-end.result in
     let none = last_ended block t.at end t.invariant.0 c.line_end-end.ensures c.if-block-end.true in
     let rest = last_begun block t.at end t.invariant.0 c.line_end-end.ensures c.if-block-end.true in
-    let all = ahead_none c.args.given t.r block (take t.filled t.out) (drop t.at block) t.invariant.5 none in
+    let all = ahead_none c.args.given t.r block (take t.filled t.out) (drop t.at block) t.invariant.4 none in
     record {
       output = sym all.1;
       after = sym all.0;
-      rest = sym (t.invariant.5.rest ∙ rest);
+      rest = sym (t.invariant.4.rest ∙ rest);
       taken_fits = t.invariant.0;
       filled_fits = omega (arith, t.invariant.0, t.invariant.1);
     }

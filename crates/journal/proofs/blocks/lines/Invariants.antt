@@ -6,9 +6,9 @@ use Rattle.card.specs.Records.{sound}
 use Rattle.journal.proofs.Texts.{Ahead}
 use Rattle.journal.proofs.blocks.lines.Given as goal
 
-abbrev pub invariant-loop-values : goal.invariant-loop-values
-invariant-loop-values l =
-    (l.at ≤ length l.block) × (l.filled ≤ 8 * l.at) × (length l.out ≡ length l.initial.out) × (length l.room ≡ 261) × (l.fit ≡ sound l.r) × Ahead l.initial.r l.block l.r (take l.filled l.out) (drop l.at l.block)
+abbrev pub invariant-loop-reader : goal.invariant-loop-reader
+invariant-loop-reader l =
+    (l.at ≤ length l.block) × (l.filled ≤ 8 * l.at) × (length l.out ≡ length l.initial.out) × (l.fit ≡ sound l.r) × Ahead l.initial.r l.block l.r (take l.filled l.out) (drop l.at l.block)
 
-abbrev pub decreases-loop-values : goal.decreases-loop-values
-decreases-loop-values l = length l.block - l.at
+abbrev pub decreases-loop-reader : goal.decreases-loop-reader
+decreases-loop-reader l = length l.block - l.at

@@ -8,14 +8,14 @@ pub returns-then-line-lt5 : goal.returns-then-line-lt5
 unfolding expected_in
 returns-then-line-lt5 c = rw (lt-ltb _ _ c.if-line-lt5.true)
 
-pub returns-in-NoGroup : goal.returns-in-NoGroup
+pub returns-in_default : goal.returns-in_default
 unfolding expected_in
-returns-in-NoGroup c = rw (le-ltb _ _ c.if-line-lt5.false, sym c.named.ensures ∙ c.in-NoGroup.is)
+returns-in_default c = rw (le-ltb _ _ c.if-line-lt5.false, sym c.named.ensures ∙ c.in_default.is)
 
 pub returns-then-line-eq76 : goal.returns-then-line-eq76
 unfolding expected_in
-returns-then-line-eq76 c = rw (le-ltb _ _ c.if-line-lt5.false, sym c.named.ensures ∙ c.in-Is.is, eq-eqb _ _ c.if-line-eq76.true)
+returns-then-line-eq76 c = rw (le-ltb _ _ c.if-line-lt5.false, sym c.named.ensures ∙ c.in-Some.is, eq-eqb _ _ c.if-line-eq76.true)
 
 pub returns : goal.returns
 unfolding expected_in
-returns c = rw (le-ltb _ _ c.if-line-lt5.false, sym c.named.ensures ∙ c.in-Is.is, ne_eqb _ _ c.if-line-eq76.false) c.write_expects.ensures
+returns c = rw (le-ltb _ _ c.if-line-lt5.false, sym c.named.ensures ∙ c.in-Some.is, ne_eqb _ _ c.if-line-eq76.false) c.write_expects.ensures

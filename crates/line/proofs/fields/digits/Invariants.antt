@@ -7,6 +7,3 @@ use Rattle.line.proofs.fields.digits.Given as goal
 
 abbrev pub invariant-loop-i : goal.invariant-loop-i
 invariant-loop-i l = (l.i ≤ length l.field) × (l.i ≤ l.width) × (l.value < 10 ^ l.i) × (digits_walked 0 0 l.width l.field ≡ digits_walked l.value l.i (l.width - l.i) (drop l.i l.field))
-
-abbrev pub decreases-loop-i : goal.decreases-loop-i
-decreases-loop-i l = length l.field - l.i

@@ -1,5 +1,6 @@
 -- Where a space or the end is met, nothing is left, and the bytes passed are the field.
-use mathlib.Core.Path.{sym}
+use mathlib.Core.Path.{◌≡◌, sym}
+use lib.ListN.{length}
 use Prim.Native.Nat.{◌+◌}
 use native.Mathlib.Omega.{arith}
 use Rattle.line.proofs.FieldLaws.{word_stop, word_step, word_past, part_whole}
@@ -18,4 +19,6 @@ loop-end-preserved c =
     (search rules, search rules, search rules, word_step c.args.line.now (c.args.at + 1) _ i.1 c.loop-end-test.true c.if-line-end-eq32.false i.3)
 
 pub returns : goal.returns
-returns c = part_whole c.args.line.now (c.args.at + 1) _ c.loop-end.invariant.3 (word_past c.args.line.now _ c.loop-end-test.false)
+returns c =
+    let e : length c.args.line.now ≡ c.loop-end.end = omega arith in
+    rw e (part_whole c.args.line.now (c.args.at + 1) _ c.loop-end.invariant.3 (word_past c.args.line.now _ c.loop-end-test.false))

@@ -8,6 +8,3 @@ use Rattle.line.proofs.fields.field.Given as goal
 
 abbrev pub invariant-loop-end : goal.invariant-loop-end
 invariant-loop-end l = (l.start ≡ l.at + 1) × (l.start ≤ l.end) × (l.end ≤ length l.line) × (up_to_space (drop l.start l.line) ≡ take (l.end - l.start) (drop l.start l.line) ++ up_to_space (drop l.end l.line))
-
-abbrev pub decreases-loop-end : goal.decreases-loop-end
-decreases-loop-end l = length l.line - l.end

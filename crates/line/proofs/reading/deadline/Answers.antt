@@ -1,17 +1,14 @@
--- The figures are read in the row's order; the first that is wrong makes a syntax error at its place, and behind the last the line ends.
+-- The figures are read in the row's order; the first that is wrong tells its place, and behind the last the line ends.
 use mathlib.Core.Path.{sym, ◌∙◌}
+use borrow.Author.Rules.{rules}
 use Rattle.line.specs.Inner.{form_walked}
-use Rattle.line.proofs.Three.{watched_wrong, watched_all, onward_end, read_end}
+use Rattle.line.proofs.Three.{watched_all, onward_end, made_end}
 use Rattle.line.proofs.reading.deadline.Goals as goal
 
-pub returns-in-Wrong : goal.returns-in-Wrong
+pub returns-in_err-time : goal.returns-in_err-time
 unfolding form_walked
-returns-in-Wrong c = rw (watched_wrong _ (sym c.watched.ensures ∙ c.in-Wrong.is)) c.misread.ensures
+returns-in_err-time c = rw (watched_all _ (sym c.watched.ensures ∙ c.in_ok-flag.was), sym c.figure.ensures ∙ c.in_err-time.was) (search rules)
 
-pub returns-in-Wrong-figure : goal.returns-in-Wrong-figure
+pub returns : goal.returns
 unfolding form_walked
-returns-in-Wrong-figure c = rw (watched_all _ (sym c.watched.ensures ∙ c.in-Are.is), sym c.figure.ensures ∙ c.in-Wrong-figure.is) c.misread-in-Wrong-figure.ensures
-
-pub returns-in-Value : goal.returns-in-Value
-unfolding form_walked
-returns-in-Value c = rw (watched_all _ (sym c.watched.ensures ∙ c.in-Are.is), sym c.figure.ensures ∙ c.in-Value.is, onward_end, onward_end, onward_end, onward_end, read_end) c.whole.ensures
+returns c = rw (watched_all _ (sym c.watched.ensures ∙ c.in_ok-flag.was), sym c.figure.ensures ∙ c.in_ok-time.was, onward_end, onward_end, onward_end, onward_end, made_end) c.whole.ensures

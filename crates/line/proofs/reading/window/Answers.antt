@@ -1,21 +1,18 @@
--- The figures are read in the row's order; the first that is wrong makes a syntax error at its place, and behind the last the line ends.
+-- The figures are read in the row's order; the first that is wrong tells its place, and behind the last the line ends.
 use mathlib.Core.Path.{sym, ◌∙◌}
+use borrow.Author.Rules.{rules}
 use Rattle.line.specs.Inner.{form_walked}
-use Rattle.line.proofs.Three.{watched_wrong, watched_all, onward_end, read_end}
+use Rattle.line.proofs.Three.{watched_all, onward_end, made_end}
 use Rattle.line.proofs.reading.window.Goals as goal
 
-pub returns-in-Wrong : goal.returns-in-Wrong
+pub returns-in_err-begin : goal.returns-in_err-begin
 unfolding form_walked
-returns-in-Wrong c = rw (watched_wrong _ (sym c.watched.ensures ∙ c.in-Wrong.is)) c.misread.ensures
+returns-in_err-begin c = rw (watched_all _ (sym c.watched.ensures ∙ c.in_ok-flag.was), sym c.figure.ensures ∙ c.in_err-begin.was) (search rules)
 
-pub returns-in-Wrong-figure : goal.returns-in-Wrong-figure
+pub returns-in_err-end : goal.returns-in_err-end
 unfolding form_walked
-returns-in-Wrong-figure c = rw (watched_all _ (sym c.watched.ensures ∙ c.in-Are.is), sym c.figure.ensures ∙ c.in-Wrong-figure.is) c.misread-in-Wrong-figure.ensures
+returns-in_err-end c = rw (watched_all _ (sym c.watched.ensures ∙ c.in_ok-flag.was), sym c.figure.ensures ∙ c.in_ok-begin.was, sym c.figure-2.ensures ∙ c.in_err-end.was) (search rules)
 
-pub returns-in-Wrong-figure-2 : goal.returns-in-Wrong-figure-2
+pub returns : goal.returns
 unfolding form_walked
-returns-in-Wrong-figure-2 c = rw (watched_all _ (sym c.watched.ensures ∙ c.in-Are.is), sym c.figure.ensures ∙ c.in-Value.is, sym c.figure-in-Value.ensures ∙ c.in-Wrong-figure-2.is) c.misread-in-Wrong-figure-2.ensures
-
-pub returns-in-Value-figure : goal.returns-in-Value-figure
-unfolding form_walked
-returns-in-Value-figure c = rw (watched_all _ (sym c.watched.ensures ∙ c.in-Are.is), sym c.figure.ensures ∙ c.in-Value.is, sym c.figure-in-Value.ensures ∙ c.in-Value-figure.is, onward_end, onward_end, onward_end, onward_end, onward_end, read_end) c.whole.ensures
+returns c = rw (watched_all _ (sym c.watched.ensures ∙ c.in_ok-flag.was), sym c.figure.ensures ∙ c.in_ok-begin.was, sym c.figure-2.ensures ∙ c.in_ok-end.was, onward_end, onward_end, onward_end, onward_end, onward_end, made_end) c.whole.ensures

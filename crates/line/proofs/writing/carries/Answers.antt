@@ -1,24 +1,7 @@
--- Each arm holds its figures against the powers of ten that the table's digits give.
-use mathlib.Core.Bool.{and_assoc, and-true}
-use Rattle.wire.specs.Road.{carries}
+-- The table's digits give the powers of ten that the road cannot carry.
+use mathlib.Core.Path.{refl}
+use Rattle.line.specs.Line.{text_road}
 use Rattle.line.proofs.writing.carries.Goals as goal
 
-pub returns-in-AhueDeadline : goal.returns-in-AhueDeadline
-unfolding carries
-returns-in-AhueDeadline c = simp (c.in-AhueDeadline.is, and_assoc, and-true)
-
-pub returns-in-AhueWindow : goal.returns-in-AhueWindow
-unfolding carries
-returns-in-AhueWindow c = simp (c.in-AhueWindow.is, and_assoc, and-true)
-
-pub returns-in-HzbgLimit : goal.returns-in-HzbgLimit
-unfolding carries
-returns-in-HzbgLimit c = simp (c.in-HzbgLimit.is, and-true)
-
-pub returns-in-RrueReference : goal.returns-in-RrueReference
-unfolding carries
-returns-in-RrueReference c = simp (c.in-RrueReference.is, and_assoc, and-true)
-
-pub returns-in-SolwSetpoint : goal.returns-in-SolwSetpoint
-unfolding carries
-returns-in-SolwSetpoint c = simp (c.in-SolwSetpoint.is, and-true)
+pub returns : goal.returns
+returns c = c.carries.ensures text_road refl refl refl

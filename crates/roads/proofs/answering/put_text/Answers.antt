@@ -5,11 +5,11 @@ use Rattle.roads.proofs.answering.put_text.Goals as goal
 
 pub returns-in-Done : goal.returns-in-Done
 unfolding text_reply
-returns-in-Done c = rw c.in-Done.is c.put_text_of.ensures
+returns-in-Done c = rw c.in-Done.is c.put_in_text.ensures
 
 pub returns-in-Told : goal.returns-in-Told
 unfolding text_reply
 returns-in-Told c = rw c.in-Told.is c.put_figures.ensures
 
 pub returns-in-Refused : goal.returns-in-Refused
-returns-in-Refused c = rw (c.in-Refused.is, refused_text_lem c.in-Refused.why, ← c.reply_to.ensures) c.put_in_text.ensures
+returns-in-Refused c = rw (c.in-Refused.is, refused_text_lem c.in-Refused.why, ← c.reply_to.ensures) c.put_in_text-in-Refused.ensures

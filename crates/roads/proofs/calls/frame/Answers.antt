@@ -1,5 +1,5 @@
 -- Too small a room is refused first; then no frame; then whoever holds the address is asked what the frame brings.
-use mathlib.Core.Path.{refl, sym, ◌∙◌}
+use mathlib.Core.Path.{sym, ◌∙◌}
 use borrow.Author.Tests.{lt-ltb}
 use Rattle.roads.specs.Acknowledgements.{frame_reply}
 use Rattle.roads.specs.Calls.{answer_frame}
@@ -8,7 +8,7 @@ use Rattle.roads.proofs.calls.frame.Goals as goal
 
 pub returns-then-room-lt32 : goal.returns-then-room-lt32
 unfolding answer_frame frame_reply
-returns-then-room-lt32 c = (rw (lt-ltb _ _ c.if-room-lt32.true), refl)
+returns-then-room-lt32 c = (rw (lt-ltb _ _ c.if-room-lt32.true, c.refused.ensures), rw c.refused.ensures)
 
 pub returns-in-NoFrame : goal.returns-in-NoFrame
 returns-in-NoFrame c =

@@ -11,7 +11,7 @@ use Rattle.roads.proofs.calls.text.Goals as goal
 
 pub returns-then-room-lt32 : goal.returns-then-room-lt32
 unfolding answer_text text_place text_reply
-returns-then-room-lt32 c = (rw (lt-ltb _ _ c.if-room-lt32.true), rw (lt-ltb _ _ c.if-room-lt32.true))
+returns-then-room-lt32 c = (rw (lt-ltb _ _ c.if-room-lt32.true, c.refused.ensures), rw (lt-ltb _ _ c.if-room-lt32.true, c.refused.ensures))
 
 pub returns : goal.returns
 returns c =

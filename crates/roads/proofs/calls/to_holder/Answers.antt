@@ -4,15 +4,15 @@ use Rattle.roads.specs.Inner.{frame_at}
 use Rattle.roads.proofs.CallLaws.{silent_place, frame_answer}
 use Rattle.roads.proofs.calls.to_holder.Goals as goal
 
-pub returns-in-Nowhere : goal.returns-in-Nowhere
+pub returns-in-None : goal.returns-in-None
 unfolding frame_at
-returns-in-Nowhere c = (rw (c.silent.ensures, sym c.find.ensures ∙ c.in-Nowhere.is), rw c.silent.ensures (silent_place _ _))
+returns-in-None c = (rw (c.silent.ensures, sym c.find.ensures ∙ c.in-None.is), rw c.silent.ensures (silent_place _ _))
 
-pub returns-in-At : goal.returns-in-At
+pub returns-in-Some : goal.returns-in-Some
 unfolding frame_at
-returns-in-At c =
+returns-in-Some c =
     let a = c.args in (
-      rw (sym c.find.ensures ∙ c.in-At.is)
-          (frame_answer a.r c.in-At.zone a.address a.asked a.room.now _ _ c.ask-outcome.result c.ask-outcome.ensures c.put_frame-length.ensures),
+      rw (sym c.find.ensures ∙ c.in-Some.is)
+          (frame_answer a.r c.in-Some.zone a.address a.asked a.room.now _ _ c.ask-outcome.result c.ask-outcome.ensures c.put_frame-length.ensures),
       refl,
     )

@@ -1,32 +1,20 @@
--- A line that is passed leaves the one that is sought a line nearer; where the text is over there is none, and else it is the first of what is left.
-use mathlib.Core.Path.{◌≡◌, sym, ◌∙◌}
-use native.Mathlib.Omega.{arith}
-use Rattle.saying.proofs.Recipe.{end_within, passed, found, none_left}
+-- The line is the one that the lines of the text have at that index.
+use Rattle.std.proofs.Common.{◌≡◌, [], List, ℕ, Option, Some, None, Bor, ap, refl, ◌∙◌, get_or}
+use Rattle.std.specs.Option.{option_map, unwrap_or}
+use Rattle.std.proofs.lemmas.Iterator.Consumers.{nth_from_yields_List, YieldsList-from_first}
+use Rattle.std.proofs.lemmas.Option.{unwrap_or-slice_get}
+use Rattle.texts.specs.Texts.{lines_of}
+use Rattle.saying.proofs.Recipe.{line_short}
 use Rattle.saying.proofs.loading.line_behind.Goals as goal
 
-pub returns-then-text-at-clause-result_value : goal.returns-then-text-at-clause-result_value
-returns-then-text-at-clause-result_value c = sym (c.loop-left.invariant.1 ∙ none_left c.args.text.now c.loop-left.at c.loop-left.left c.if-text-at.true)
+behind : (o : Option (Bor (List ℕ))) (d : Bor (List ℕ)) → (unwrap_or o d).now ≡ unwrap_or (option_map (λ (x : Bor (List ℕ)). x.now) o) d.now
+behind None d = refl
+behind (Some x) d = refl
 
-pub overflow_add-at : goal.overflow_add-at
-overflow_add-at c = omega (arith, end_within c.args.text.now c.loop-left.at c.line_end-at.result (omega arith) c.line_end-at.ensures)
-
-pub loop-left-preserved : goal.loop-left-preserved
-loop-left-preserved c =
-    let text = c.args.text.now in
-    let t = c.loop-left in
-    let end = c.line_end-at in (
-      omega (arith, end_within text t.at end.result (omega arith) end.ensures),
-      t.invariant.1 ∙ passed text t.at end.result c.if-text-at.false end.ensures t.left c.loop-left-test.true,
-    )
-
-pub returns-then-text-at-2-clause-result_value : goal.returns-then-text-at-2-clause-result_value
-returns-then-text-at-2-clause-result_value c = sym (c.loop-left.invariant.1 ∙ none_left c.args.text.now c.loop-left.at c.loop-left.left c.if-text-at-2.true)
-
-pub slice_bounds-result-end-2 : goal.slice_bounds-result-end-2
-slice_bounds-result-end-2 c = end_within c.args.text.now c.loop-left.at c.line_end-end.result (omega arith) c.line_end-end.ensures
-
-pub returns-clause-result_value : goal.returns-clause-result_value
-returns-clause-result_value c =
-    let t = c.loop-left in
-    let last : t.left ≡ 0 = omega arith in
-    sym (t.invariant.1 ∙ rw last (found c.args.text.now t.at c.line_end-end.result c.if-text-at-2.false c.line_end-end.ensures))
+pub returns : goal.returns
+returns c =
+    let lines = lines_of c.args.text.now in
+    let nth = nth_from_yields_List {all = lines} c.nth.result c.nth.new.self c.args.others c.nth.ensures.ran (YieldsList-from_first (λ x. x.now) (λ s. lines_of s.rest.now) _ refl) in
+    let value : c.unwrap_or.result.now ≡ get_or lines c.args.others [] =
+    ap (λ (x : Bor (List ℕ)). x.now) c.unwrap_or.ensures ∙ behind c.nth.result _ ∙ ap (λ (o : Option (List ℕ)). unwrap_or o []) nth ∙ unwrap_or-slice_get lines c.args.others [] in
+    record { result_value = value; result_in_bounds = rw value (line_short c.args.text.now c.args.others) }

@@ -1,18 +1,16 @@
--- A byte that is not x is passed, one that is x is the first, and where no byte is left there is none.
-use mathlib.Core.Path.{refl}
-use native.Mathlib.Omega.{arith}
-use borrow.Author.Tests.{eq-eqb, ne_eqb}
-use Rattle.texts.proofs.Scans.{find_more, find_here, find_end}
+-- The library's search gives the first index, or none where there is none.
+use Rattle.std.proofs.Common.{◌≡◌, ◌∙◌, sym, ◌-◌, eqb, rules, tests, length, take, drop}
+use Rattle.std.proofs.lemmas.Iterator.{YieldsList-from_slice}
+use Rattle.std.proofs.lemmas.Iterator.Search.{position_from_yields_List}
+use Rattle.texts.specs.Texts.{index_of}
+use Rattle.texts.proofs.Scans.{left, first_passes, index_is}
 use Rattle.texts.proofs.lines.find.Goals as goal
 
-pub loop-i-init : goal.loop-i-init
-loop-i-init c = (c.requires, refl)
-
-pub returns-then-bytes-i-clause-place : goal.returns-then-bytes-i-clause-place
-returns-then-bytes-i-clause-place c = find_here _ _ _ c.loop-i.i c.loop-i-test.true (eq-eqb _ _ c.if-bytes-i.true) c.loop-i.invariant.1
-
-pub loop-i-preserved : goal.loop-i-preserved
-loop-i-preserved c = (omega arith, find_more _ _ _ c.loop-i.i c.loop-i-test.true (ne_eqb _ _ c.if-bytes-i.false) c.loop-i.invariant.1)
-
 pub returns-clause-place : goal.returns-clause-place
-returns-clause-place c = find_end _ _ _ c.loop-i.i c.loop-i-test.false c.loop-i.invariant.1
+returns-clause-place c =
+    let b = c.args.bytes.now in
+    let x = c.args.x in
+    let part = take (length b - c.args.from) (drop c.args.from b) in
+    let e = position_from_yields_List (λ y. eqb y x) _ _ c.position.result c.position.ensures.ran (YieldsList-from_slice part c.iter.ensures.rest) (λ y t q k. search (rules, tests)) in
+    let n : c.unwrap_or.result ≡ index_of x part = c.unwrap_or.ensures ∙ rw e (first_passes (λ y. eqb y x) part) ∙ sym (index_is x part) in
+    rw (n, left b c.args.from)

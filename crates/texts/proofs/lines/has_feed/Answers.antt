@@ -1,10 +1,12 @@
--- One byte more is looked at, and at the end none is left.
-use native.Mathlib.Omega.{arith}
-use Rattle.texts.proofs.Scans.{has_more, has_end}
+-- The fold joins what is found at each byte.
+use Rattle.std.proofs.Common.{rules, ◌≡◌, subst, refl}
+use Rattle.std.proofs.lemmas.Fn.{fold_over, slice_gives, fronts}
+use Rattle.texts.specs.Inner.{has_feed}
+use Rattle.texts.proofs.Scans.{has_more}
 use Rattle.texts.proofs.lines.has_feed.Goals as goal
 
-pub loop-i-preserved : goal.loop-i-preserved
-loop-i-preserved c = (omega arith, has_more _ c.loop-i.i c.loop-i.found c.loop-i-test.true c.loop-i.invariant.1)
-
 pub returns : goal.returns
-returns c = has_end _ c.loop-i.i c.loop-i.found c.loop-i-test.false c.loop-i.invariant.1
+unfolding has_feed
+returns c = subst (λ l. c.fold.result ≡ has_feed l) c.iter.ensures.rest
+    (fold_over fronts (λ y. y.now) _ (λ ys a. a ≡ has_feed ys) _ (λ ys a x b f' j k. let more = has_more ys x.now in search rules)
+    _ _ _ _ (slice_gives c.iter.result) refl c.fold.ensures.ran)

@@ -1,21 +1,9 @@
--- Where the zone is reached it decides, and its decision is stored; where not, the call is refused for that reason.
-use mathlib.Core.Path.{sym, ◌∙◌}
+-- What the zone decides, stored.
+use borrow.Author.Rules.{rules}
 use Rattle.card.specs.Records.{zone_at}
-use Rattle.card.specs.Inner.{verdict_seen, ask_at, ask_of}
-use Rattle.card.proofs.Inner.{stopped, reaches, at_zone_lem}
+use Rattle.card.specs.Inner.{ask_at, ask_of}
 use Rattle.card.proofs.records.Record.ask.Goals as goal
 
-pub changed-requires : goal.changed-requires
-changed-requires c = (reaches _ _ _ (sym c.in-There.ensures)).below
-
-pub returns-in-Stopped : goal.returns-in-Stopped
+pub returns : goal.returns
 unfolding ask_of
-returns-in-Stopped c =
-    let a = c.args in
-    rw c.refused.ensures (stopped _ _ _ (ask_at (zone_at a.self a.zone) a.asked) (sym c.in-Stopped.ensures))
-
-pub returns-in-There : goal.returns-in-There
-unfolding ask_of
-returns-in-There c =
-    let a = c.args in
-    c.changed.ensures ∙ at_zone_lem _ _ _ (λ z. verdict_seen z c.heard.result) (λ z. ask_at z a.asked) (sym c.in-There.ensures) c.heard.ensures
+returns c = let a = c.args in c.at.ensures (ask_at (zone_at a.self a.zone) a.asked) (λ v p. search rules)

@@ -10,7 +10,7 @@ pub returns-then-not-is_otherwise_sound : goal.returns-then-not-is_otherwise_sou
 unfolding repair_of
 returns-then-not-is_otherwise_sound c =
     let faulty : otherwise_sound c.args.self ≡ false = sym c.is_otherwise_sound.ensures ∙ c.if-not-is_otherwise_sound.true in
-    rw (c.refused.ensures, faulty)
+    rw (c.refused.ensures, c.none.ensures, faulty)
 
 pub all_mended-requires : goal.all_mended-requires
 all_mended-requires c = (otherwise_parts c.args.self (sym c.is_otherwise_sound.ensures ∙ c.if-not-is_otherwise_sound.false)).zones

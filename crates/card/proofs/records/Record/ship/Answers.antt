@@ -1,22 +1,9 @@
--- Where the zone is reached it decides, and its decision is stored; where not, the call is refused for that reason.
-use mathlib.Core.Path.{sym, ◌∙◌}
+-- What the zone decides, stored.
+use borrow.Author.Rules.{rules}
 use Rattle.card.specs.Records.{zone_at}
 use Rattle.card.specs.Calls.{ship_at, ship_of}
-use Rattle.card.specs.Inner.{verdict_seen}
-use Rattle.card.proofs.Inner.{stopped, reaches, at_zone_lem}
 use Rattle.card.proofs.records.Record.ship.Goals as goal
 
-pub changed-requires : goal.changed-requires
-changed-requires c = (reaches _ _ _ (sym c.in-There.ensures)).below
-
-pub returns-in-Stopped : goal.returns-in-Stopped
+pub returns : goal.returns
 unfolding ship_of
-returns-in-Stopped c =
-    let a = c.args in
-    rw c.refused.ensures (stopped _ _ _ (ship_at (zone_at a.self a.zone) a.kilograms) (sym c.in-Stopped.ensures))
-
-pub returns-in-There : goal.returns-in-There
-unfolding ship_of
-returns-in-There c =
-    let a = c.args in
-    c.changed.ensures ∙ at_zone_lem _ _ _ (λ z. verdict_seen z c.shipped.result) (λ z. ship_at z a.kilograms) (sym c.in-There.ensures) c.shipped.ensures
+returns c = let a = c.args in c.at.ensures (ship_at (zone_at a.self a.zone) a.kilograms) (λ v p. search rules)

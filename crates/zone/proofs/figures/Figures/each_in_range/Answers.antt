@@ -18,4 +18,4 @@ all_five range (RrueReference f) = simp (and_assoc, and-true)
 all_five range (SolwSetpoint f) = simp (and_assoc, and-true)
 
 pub returns : goal.returns
-returns c = rw c.fits-fits.ensures (all_five _ _)
+returns c = rw c.fits.ensures (all_five _ _)

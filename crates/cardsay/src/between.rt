@@ -1,0 +1,19 @@
+// What a byte of the input, and a block of it, leaves to the next one.
+ghost use Rattle.std.specs.Prelude.{◌≤◌};
+
+use card::Record;
+use output::Ending;
+use std::ops::ControlFlow;
+
+// The log program's state has these fields too: `output`, which knows no record, could hold them as a generic type alone.
+//
+// The record, how many bytes of the line under way are held, no more than 601, how many bytes of output were handed to
+// write, and whether to go on.
+#[derive(Clone, Copy)]
+pub(crate) struct Between {
+    pub after: Record,
+    pub held: usize,
+    pub handed: usize,
+    pub next: ControlFlow<Ending>,
+    ghost few: { held ≤ 601 },
+}
