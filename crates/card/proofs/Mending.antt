@@ -8,8 +8,11 @@ use native.Mathlib.Numerals.{add-one}
 use native.Mathlib.Nat.{zero-add}
 use lib.ListN.{length, get_or, set, take, drop, replicate, length-set, drop_of_length-le}
 use lib.Seq.{drop-cons, sets, sets-eq}
+use Rattle.std.proofs.lemmas.List.{drop-set-lt, take_more_set, append_assoc}
 use Rattle.zone.specs.declared.zones.Zone.{Zone}
-use Rattle.zone.specs.Zones.{window_opens, mended, end_of}
+use Rattle.zone.specs.Lists.{every}
+use Rattle.zone.specs.Zones.{zone_otherwise_sound, window_opens, mended, end_of}
+use Rattle.zone.proofs.Tests.{both}
 use Rattle.card.specs.declared.records.OldEnd.{OldEnd}
 use Rattle.card.specs.Calls.{old_ends_from, told_as}
 
@@ -87,8 +90,29 @@ gathers_end zs ends count i h g =
 
 -- ---- the zones
 
--- before the turn of zone i, those before it are mended; they and those that are left, mended, make the whole
+-- before the turn of zone i, those before it are mended; they and those that are left, mended, make the whole. Those that are left have no other fault
 pub record MendsTo (zs after : List Zone) (i : ℕ) : Type 0 where
-  pub below : i ≤ 16
   pub room : length after ≡ 16
-  pub whole : map mended zs ≡ take i after ++ map mended (drop i zs)
+  pub left : every zone_otherwise_sound (drop i after) ≡ true
+  pub whole : map mended zs ≡ take i after ++ map mended (drop i after)
+
+module _ (zs after : List Zone) (i : ℕ) (d : Zone) (l : i < 16) (m : MendsTo zs after i) where
+  h : i < length after
+  h = omega (arith, m.room)
+
+  first : (zone_otherwise_sound (get_or after i d) ≡ true) × (every zone_otherwise_sound (drop (suc i) after) ≡ true)
+  first = both (zone_otherwise_sound (get_or after i d)) (every zone_otherwise_sound (drop (suc i) after)) (rw (drop-cons after i d h) at m.left)
+
+  -- the zone whose turn it is
+  pub mends_sound : zone_otherwise_sound (get_or after i d) ≡ true
+  mends_sound = first.0
+
+  pub mends_turn : MendsTo zs (set after i (mended (get_or after i d))) (i + 1)
+  mends_turn =
+      let z = mended (get_or after i d) in
+      let same : drop (i + 1) (set after i z) ≡ drop (suc i) after = drop-set-lt (i + 1) after i z (omega arith) ∙ ap (λ (n : ℕ). drop n after) (add-one i) in
+      record {
+        room = length-set after i z ∙ m.room;
+        left = rw same first.1;
+        whole = m.whole ∙ ap (λ (zones : List Zone). take i after ++ map mended zones) (drop-cons after i d h) ∙ rw (same, take_more_set after i z h, append_assoc);
+      }

@@ -1,6 +1,6 @@
 -- What the functions below the calls come to. No rule of document 01 or 02 stands here, and no promise of a call that they name cites it; `ask`, which the roads call, is promised by ask_of below.
 -- So is `range_at`, by range_at.
-use Rattle.std.specs.Prelude.{ℕ, Bool, true, false, cond, not, Ok, Err, [], ◌∷◌, leb}
+use Rattle.std.specs.Prelude.{ℕ, Bool, true, false, cond, not, [], ◌∷◌, leb, Ok, Err}
 use Rattle.std.specs.Prelude as std
 use Rattle.zone.specs.declared.zones.Zone.{Zone}
 use Rattle.zone.specs.Zones.{new_zone, empty_zone, with_status, with_figures, with_origin, with_kilograms}

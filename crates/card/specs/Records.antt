@@ -41,7 +41,7 @@ sound r = sound_by zone_sound r
 unfoldable pub otherwise_sound : Record → Bool
 otherwise_sound r = sound_by zone_otherwise_sound r
 
--- "An address is looked up from zone 0 upward; the search ends at the first zone that holds it"
+-- "An address is looked up from zone 0 upward; the search ends at the first zone that holds it". Some n is zone n; None says that no zone holds it
 unfoldable pub find_from : ℕ → List Zone → ℕ → Option ℕ
 find_from n [] address = None
 find_from n (z ∷ zones) address = cond (holds address z) (Some n) (find_from (suc n) zones address)

@@ -26,6 +26,8 @@ pub enum Refusal {
     SameZone,
 }
 
+// No Result<Option<Figures>, Refusal>: document 01 ("Where an answer is an enum, ..") asks for number and values of each of
+// its cases, which number_of and values_of give.
 #[derive(Clone, Copy, PartialEq, Eq)]
 pub enum Answer {
     Done,

@@ -10,7 +10,8 @@ use zone::{
     address_in_range, input_in_range, more_in_range, range_known,
 };
 
-// What a zone decides: it refuses, or it tells figures, or it is altered.
+// What a zone decides: it refuses, or it tells figures, or it is altered. Its refusal is a case, and no Err beside seven
+// others: `answer`, `alters` and `after`, and the definitions that they keep, take it as one of eight.
 #[derive(Clone, Copy)]
 pub enum Verdict {
     Refuses(Refusal),

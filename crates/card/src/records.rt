@@ -1,12 +1,12 @@
 // The record, its soundness, the look-up of an address, and the calls.
-ghost use Rattle.std.specs.Prelude.{◌≡◌, true, ◌<◌, []};
-ghost use Rattle.std.specs.List.{list_all};
+ghost use Rattle.std.specs.Prelude.{◌≡◌, Bool, true, ◌<◌, []};
+ghost use Rattle.std.specs.List.{list_any};
 ghost use Rattle.zone.specs.Lists.{every, some};
 ghost use Rattle.zone.specs.Zones.{zone_otherwise_sound, zone_sound, mended, holds};
 ghost use Rattle.zone.specs.declared.zones.Zone.{Zone};
 ghost use Rattle.card.specs.declared.judgements.Verdict.{Verdict};
 ghost use Rattle.card.specs.Answers.{outcome_seen};
-ghost use Rattle.card.specs.Records.{empty_record, zone_at, differ, otherwise_sound, sound, find_of, no_zone};
+ghost use Rattle.card.specs.Records.{empty_record, zone_at, differ, otherwise_sound, sound, sound_by, find_of, no_zone};
 ghost use Rattle.card.specs.Calls.{Judgement, at_zone, add_of, remove_of, report_of, apply_of, choose_source_of, setpoint_in_use_of, book_of, ship_of, merge_of, all_mended, old_ends_from, told_as, repair_seen, repair_of};
 ghost use Rattle.card.specs.Inner.{range_at, reach_of, verdict_seen, judged, stored, ask_of};
 
@@ -48,6 +48,13 @@ pub struct Repaired {
     pub told: OldEnds,
 }
 
+// Some present zone of these holds the address.
+fn held_among(zones: &[Zone], address: u32) -> bool
+    ensures { result ≡ list_any (holds address) zones.now }
+{
+    zones.iter().any(|z| z.holds(address))
+}
+
 impl OldEnds {
     // No zone is told.
     fn none() -> OldEnds
@@ -75,26 +82,22 @@ impl Record {
     pub fn is_sound(self) -> bool
         ensures { result ≡ sound self }
     {
-        self.zones_sound() & self.addresses_differ()
-    }
-
-    fn zones_sound(&self) -> bool
-        ensures { result ≡ list_all zone_sound self.now.zones }
-    {
-        self.zones.iter().all(|z| z.is_sound())
+        self.sound_by(|z| z.is_sound())
     }
 
     // Soundness without the rule for windows.
     fn is_otherwise_sound(self) -> bool
         ensures { result ≡ otherwise_sound self }
     {
-        self.zones_otherwise_sound() & self.addresses_differ()
+        self.sound_by(|z| z.is_otherwise_sound())
     }
 
-    fn zones_otherwise_sound(&self) -> bool
-        ensures { result ≡ list_all zone_otherwise_sound self.now.zones }
+    // Soundness, by what is asked of each zone.
+    fn sound_by<F: Fn(Zone) -> bool>(&self, zone: F) -> bool
+        requires { F.IsAlwaysCallable zone }
+        ensures { (test : Zone → Bool) → ((z : Zone) (b : Bool) → F.post zone z b → b ≡ test z) → result ≡ sound_by test self.now }
     {
-        self.zones.iter().all(|z| z.is_otherwise_sound())
+        self.zones.iter().all(|z| zone(*z)) & self.addresses_differ()
     }
 
     // No present zone's address is held by a later one.
@@ -104,7 +107,7 @@ impl Record {
         let mut ok = true;
         let mut zones = self.zones.as_slice();
         while let Some((z, later)) = zones.split_first() {
-            ok = ok & !(z.present & later.iter().any(|other| other.holds(z.address)));
+            ok = ok & !(z.present & held_among(later, z.address));
             zones = later;
         }
         ok
@@ -134,7 +137,7 @@ impl Record {
         self.find(address).is_some()
     }
 
-    // The temperature range that the record has for a zone number; 0 above 15.
+    // The temperature range that the record has for a zone number; 0 above 15, as in range_at, and so no Option.
     pub fn range_at(self, zone: usize) -> u32
         ensures { result ≡ range_at self zone }
     {
@@ -306,15 +309,14 @@ impl Record {
     }
 
     // Each zone, mended if its window does not open before it closes.
-    fn all_mended(self) -> Record
+    fn all_mended(mut self) -> Record
         requires { every zone_otherwise_sound self.zones ≡ true }
         ensures { result ≡ all_mended self }
     {
-        let mut after = self;
-        for (i, z) in self.zones.iter().enumerate() {
-            after.zones[i] = z.mended();
+        for z in self.zones.iter_mut() {
+            *z = z.mended();
         }
-        after
+        self
     }
 
     // The end of each window that does not open before it closes is set to its begin + 1, and those

@@ -30,7 +30,7 @@ use std::rt::Files;
 // How much of the log is worked on at once.
 const BUFFER: usize = 16384;
 
-// The log's answers have room as in the log program.
+// The log's answers have room as in the log program: it is what the journal's `feed` requires, of which `output` knows nothing.
 const ANSWERS: usize = 8 * BUFFER + 40;
 
 // Works on what the buffer holds up to `end`. The answers, in `out`, are left there.
@@ -53,7 +53,7 @@ fn feed(
     }
 }
 
-// One block of the log. At its end the last line gets the line feed that it lacks.
+// One block of the log. At its end the last line gets the line feed that it lacks. The log program's turn differs by its clause.
 fn turn(
     input: &mut impl Read,
     before: Between,

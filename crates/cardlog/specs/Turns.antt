@@ -14,7 +14,7 @@ pub record Leaves (r : Record) (text buffer out : List ℕ) (b : Between) : Type
 
 -- what a turn leaves
 pub data Turned (r : Record) (held buffer out : List ℕ) (b : Between) : Type 0 where
-  -- some block was read: it stands behind what was held
+  -- some block was read: it stands behind what was held. Whether the program then goes on is not said here
   went_on : (block : List ℕ) → Leaves r (held ++ block) buffer out b → Turned r held buffer out b
   -- the input has ended: the line under way, if there is one, gets its line feed
   ended : Leaves r (closed held) buffer out b → going b.next ≡ false → Turned r held buffer out b

@@ -11,7 +11,7 @@
 // on is no failure: the program ends in silence, with the status that a closed pipe's signal would have given it.
 #![tactic(auto)]
 
-ghost use Rattle.std.specs.Prelude.{◌≡◌, false, ◌&&◌, ◌≤◌, length, take};
+ghost use Rattle.std.specs.Prelude.{◌≡◌, false, ◌≤◌, length, take};
 ghost use Rattle.output.specs.Output.{going};
 ghost use Rattle.cardlog.specs.Turns.{Leaves, Turned};
 
@@ -28,17 +28,26 @@ use std::process::ExitCode;
 const BUFFER: usize = 16384;
 
 // The output has room for 8 bytes for each byte of the buffer, and 40 more: a line yields at most 8 bytes for each
-// of its own and its line feed, and 40 are asked for before one is written.
+// of its own and its line feed, and 40 are asked for before one is written. The program that loads a recipe has the same two
+// numbers: they are the journal's business (what `feed` requires), of which `output`, what the programs share, knows nothing.
 const OUT: usize = 8 * BUFFER + 40;
 
+// How the reading of the log stands: more of it may come, or it has ended.
+#[derive(Clone, Copy, PartialEq, Eq)]
+enum Log {
+    More,
+    Ended,
+}
+
 // The program goes on where more may come and the output was written.
-fn goes_on(more: bool, written: ControlFlow<Ending>) -> ControlFlow<Ending>
-    ensures { going result ≡ (more && going written) }
+fn goes_on(log: Log, written: ControlFlow<Ending>) -> ControlFlow<Ending>
+    ensures more { log ≡ Log.More → going result ≡ going written }
+    ensures ended { log ≡ Log.Ended → going result ≡ false }
 {
-    if more & written.is_continue() {
-        return ControlFlow::Continue(());
+    match log {
+        Log::More => written,
+        Log::Ended => ControlFlow::Break(ended(written)),
     }
-    ControlFlow::Break(ended(written))
 }
 
 // Works on what the buffer holds up to `end`, and writes the output. If that fails, the program ends.
@@ -48,11 +57,11 @@ fn answer(
     buffer: &mut [u8; BUFFER],
     end: usize,
     out: &mut [u8; OUT],
-    more: bool,
+    log: Log,
 ) -> Between
     requires { end ≤ BUFFER }
     ensures leaves { Leaves r (take end buffer.old) buffer.new out.new result }
-    ensures more_value { more ≡ false → going result.next ≡ false }
+    ensures ended { log ≡ Log.Ended → going result.next ≡ false }
 {
     let kept = journal::feed(r, buffer, end, out);
     let written = write(rt, "cardlog", &out[..kept.filled]);
@@ -60,11 +69,12 @@ fn answer(
         after: kept.after,
         held: kept.held,
         handed: written.handed,
-        next: goes_on(more, written.next),
+        next: goes_on(log, written.next),
     }
 }
 
-// One block. A read that fails ends the program, and the line under way is not answered: it may be half of one.
+// One block. A read that fails ends the program, and the line under way is not answered: it may be half of one. The turn of
+// the program that loads a recipe differs by its clause: Turned here speaks of the output, and there of how the log stands.
 fn turn(
     rt: &(impl Print + Eprint),
     input: &mut impl Read,
@@ -87,9 +97,9 @@ fn turn(
     };
     if count == 0 {
         let end = journal::close(buffer, held);
-        return answer(rt, r, buffer, end, out, false);
+        return answer(rt, r, buffer, end, out, Log::Ended);
     }
-    answer(rt, r, buffer, held + count, out, true)
+    answer(rt, r, buffer, held + count, out, Log::More)
 }
 
 // Block after block, to the end of the input.

@@ -5,7 +5,8 @@ use card::Record;
 use output::Ending;
 use std::ops::ControlFlow;
 
-// The log program's state has these fields too: `output`, which knows no record, could hold them as a generic type alone.
+// The log program's state has these fields too, and one generic type in `output` was tried: with a type parameter and a
+// ghost field Clone cannot be derived, and a clone by hand returns a Result with an AllocError.
 //
 // The record, how many bytes of the line under way are held, no more than 601, how many bytes of output were handed to
 // write, and whether to go on.

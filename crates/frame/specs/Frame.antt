@@ -1,16 +1,16 @@
 -- The frame of a command, and the command of a frame.
-use Rattle.std.specs.Prelude.{ℕ, zero, suc, ◌+◌, ◌*◌, ◌/◌, ◌%◌, ◌^◌, Bool, cond, ◌&&◌, List, [], ◌∷◌, ◌++◌, length, get_or, take, drop, leb, eqb, Err, None, Option, Some}
+use Rattle.std.specs.Prelude.{ℕ, zero, suc, ◌+◌, ◌*◌, ◌/◌, ◌%◌, ◌^◌, Bool, cond, ◌&&◌, Option, Some, None, Err, List, [], ◌∷◌, ◌++◌, length, get_or, take, drop, leb, eqb}
 use Rattle.zone.specs.declared.figures.Group.{Group}
 use Rattle.zone.specs.declared.figures.Figures.{Figures}
 use Rattle.zone.specs.declared.figures.Command.{Command}
 use Rattle.zone.specs.declared.figures.Command.TheVariants.{Read, Write}
 use Rattle.zone.specs.Table.{bytes, index, every_group}
 use Rattle.zone.specs.Figures.{group_of}
-use Rattle.wire.specs.Road.{Road, figure_bytes, command_read, Parsed}
+use Rattle.wire.specs.declared.Misread.TheVariants.{Unknown}
+use Rattle.wire.specs.Road.{Road, Parsed, figure_bytes, command_read}
 use Rattle.frame.specs.declared.reading.Framed.{Framed}
 use Rattle.frame.specs.declared.reading.Framed.TheVariants.{NoFrame, BadSum, Request}
 use Rattle.frame.specs.Sum.{checksum_of}
-use Rattle.wire.specs.declared.Misread.TheVariants.{Unknown}
 
 -- `width` bytes of n, "low byte first"
 abbrev pub bytes_of : ℕ → ℕ → List ℕ
@@ -38,6 +38,7 @@ frame_road = record {
   width = λ kind. bytes kind;
   bound = λ kind. 256 ^ bytes kind;
   bytes_for = λ kind n. bytes_of (bytes kind) n;
+  -- any bytes are a figure, so there is always one
   found_at = λ kind l at. Some (number_at (bytes kind) l at);
 }
 
@@ -84,6 +85,7 @@ address_in f = get_or f 4 0
 abbrev pub checksum_right : List ℕ → Bool
 checksum_right f = eqb (checksum_of (body_in f)) (get_or f (get_or f 1 0 + 4) 0)
 
+-- the first group of a list that has that index, if there is one
 abbrev pub first_indexed : List Group → ℕ → Option Group
 first_indexed [] x = None
 first_indexed (group ∷ groups) x = cond (eqb x (index group)) (Some group) (first_indexed groups x)

@@ -1,5 +1,5 @@
 -- Rules of the frame road that are proved of its definitions. Above each stands where.
-use Rattle.std.specs.Prelude.{ℕ, ◌<◌, ◌≡◌, true, List, [], ◌∷◌, map, get_or, Ok}
+use Rattle.std.specs.Prelude.{ℕ, ◌<◌, ◌≡◌, true, Ok, List, [], ◌∷◌, map, get_or}
 use Rattle.zone.specs.declared.figures.Command.{Command}
 use Rattle.zone.specs.Table.{every_form}
 use Rattle.wire.specs.Road.{carries_command, length_of}

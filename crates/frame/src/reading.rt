@@ -11,7 +11,9 @@ use zone::{
     WindowFigures,
 };
 
-// No frame; a frame whose checksum differs, with its address; a request, with its address.
+// No frame; a frame whose checksum differs, with its address; a request, with its address. Three outcomes, and no Result:
+// the first two are no errors of one kind, since document 01 has a number of its own for each (4 and 6), and the demands
+// name all three (`frame_read`, and `request_in` of session).
 #[derive(Clone, Copy)]
 pub enum Framed {
     NoFrame,
@@ -109,8 +111,8 @@ fn no_write(function: u8, group: Group, body: &[u8]) -> Parsed
     }
 }
 
-// The command of the bytes that L counts. The index byte alone names the group: its arm chooses the lengths
-// and the places by which a write is read.
+// The command of the bytes that L counts. "The index byte alone names the group": document 01 has a match over the byte
+// 0B, 15, 35, 70 and the rest, whose arm chooses the lengths and the places by which a write is read.
 #[tactic(auto, unfolding(crate::specs::Frame::group_indexed, crate::specs::Frame::body_read))]
 fn request(body: &[u8]) -> Parsed
     requires { 3 ≤ length body.now }

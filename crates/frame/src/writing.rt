@@ -30,17 +30,19 @@ pub fn put_short(address: u8, function: u8, room: &mut [u8]) -> usize
     wire::copy(&[0x10, address, function, sum, 0x16], room)
 }
 
-// The low byte of a number, and the one above it. `to_le_bytes` gives all four.
+// The low byte of a number, and the one above it.
 fn low(n: u32) -> u8
     ensures { result ≡ n % 256 }
 {
-    (n % 256) as u8
+    let [low, ..] = n.to_le_bytes();
+    low
 }
 
 fn high(n: u32) -> u8
     ensures { result ≡ n / 256 % 256 }
 {
-    low(n / 256)
+    let [_, high, ..] = n.to_le_bytes();
+    high
 }
 
 // The body of a group with one figure.
@@ -68,12 +70,13 @@ pub fn put_figures(address: u8, function: u8, figures: Figures, room: &mut [u8])
     requires { 32 ≤ length room.old }
     ensures { Filled (framed (body_with address function figures)) room.old room.new result }
 {
+    let index = index(figures.group());
     match figures {
         Figures::AhueDeadline(f) => {
             let body = [
                 address,
                 function,
-                0x0B,
+                index,
                 low(f.flag),
                 low(f.lower),
                 low(f.upper),
@@ -86,7 +89,7 @@ pub fn put_figures(address: u8, function: u8, figures: Figures, room: &mut [u8])
             let body = [
                 address,
                 function,
-                0x0B,
+                index,
                 low(f.flag),
                 low(f.lower),
                 low(f.upper),
@@ -97,12 +100,12 @@ pub fn put_figures(address: u8, function: u8, figures: Figures, room: &mut [u8])
             ];
             put_frame(&body, room)
         }
-        Figures::HzbgLimit(f) => { put_frame(&single(address, function, 0x70, f.time), room) }
+        Figures::HzbgLimit(f) => { put_frame(&single(address, function, index, f.time), room) }
         Figures::RrueReference(f) => {
             let body = [
                 address,
                 function,
-                0x15,
+                index,
                 low(f.flag),
                 low(f.lower),
                 low(f.upper),
@@ -110,7 +113,7 @@ pub fn put_figures(address: u8, function: u8, figures: Figures, room: &mut [u8])
             put_frame(&body, room)
         }
         Figures::SolwSetpoint(f) => {
-            put_frame(&single(address, function, 0x35, f.setpoint), room)
+            put_frame(&single(address, function, index, f.setpoint), room)
         }
     }
 }

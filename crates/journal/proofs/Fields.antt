@@ -1,15 +1,16 @@
 -- Laws of a line, as its readers cite them: a decimal behind a tab and what follows it, a command's text, a frame's digits, the letter. Assumes nothing.
 use Rattle.std.specs.Prelude.{None, Option, Some}
-use mathlib.Core.Path.{◌≡◌, refl, ◌∙◌}
+use mathlib.Core.Path.{◌≡◌, refl, sym, ◌∙◌}
 use mathlib.Core.Bool.{true, false}
 use mathlib.Core.List.{List, [], ◌∷◌}
 use Prim.Native.Nat.{ℕ, suc, ◌-◌, ◌≤◌, ◌<◌}
 use native.Mathlib.Omega.{arith}
-use lib.ListN.{length, get_or, take, drop, drop_of_length-le}
+use lib.ListN.{length, take, drop, drop_of_length-le}
 use lib.Seq.{drop-cons}
 use borrow.Author.Rules.{part_to_end}
-use lib.Dec.{eqb}
-use borrow.Author.Tests.{eqb-true, eqb-false, lt-ltb, le-ltb}
+use borrow.Author.Tests.{lt-ltb, le-ltb}
+use Rattle.std.specs.List.{slice_get}
+use Rattle.std.proofs.lemmas.Option.{none-some, same_Some}
 use Rattle.zone.proofs.Tests.{never}
 use Rattle.wire.specs.Road.{Numbers, are, none, join}
 use Rattle.texts.specs.Numbers.{bytes_read}
@@ -79,12 +80,12 @@ pub line_long : (l : List ℕ) → 600 < length l → asks_of l ≡ unreadable
 unfolding asks_of
 line_long l h = rw (lt-ltb 600 (length l) h)
 
-pub line_empty : (l : List ℕ) → eqb (length l) 0 ≡ true → asks_of l ≡ unreadable
+pub line_empty : (l : List ℕ) → None ≡ slice_get l 0 → asks_of l ≡ unreadable
 unfolding asks_of
 line_empty [] h = refl
-line_empty (x ∷ l) h = absurd (omega (arith, eqb-true (length (x ∷ l)) 0 h))
+line_empty (x ∷ l) h = absurd (none-some x h)
 
-pub line_letter : (l : List ℕ) → length l ≤ 600 → eqb (length l) 0 ≡ false → asks_of l ≡ letter_asks (get_or l 0 0) (drop 1 l)
+pub line_letter : (l : List ℕ) (x : ℕ) → length l ≤ 600 → Some x ≡ slice_get l 0 → asks_of l ≡ letter_asks x (drop 1 l)
 unfolding asks_of
-line_letter [] h k = absurd (eqb-false 0 0 k refl)
-line_letter (x ∷ l) h k = rw (le-ltb 600 (length (x ∷ l)) h)
+line_letter [] x h k = absurd (none-some x (sym k))
+line_letter (y ∷ l) x h k = rw (le-ltb 600 (length (y ∷ l)) h, same_Some x y k)

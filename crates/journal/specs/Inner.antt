@@ -1,5 +1,5 @@
 -- What the functions on the way come to. Everything here restates Lines, Journal or Blocks for such a function, and is proved equal to it; no promise of `feed` cites it.
-use Rattle.std.specs.Prelude.{ℕ, ◌*◌, ◌≤◌, ◌≡◌, Bool, false, not, Option, None, Some, List, [], ◌∷◌, length, get_or, take, drop, leb, eqb, Err}
+use Rattle.std.specs.Prelude.{ℕ, ◌*◌, ◌≤◌, ◌≡◌, Bool, false, not, Option, Some, None, Err, List, [], ◌∷◌, length, get_or, take, drop, leb, eqb}
 use Rattle.zone.specs.declared.figures.Figures.{Figures}
 use Rattle.zone.specs.declared.zones.Zone.{Zone}
 use Rattle.card.specs.declared.answers.Refusal.{Refusal}
@@ -27,6 +27,7 @@ use Rattle.journal.specs.Journal.{output_line, lines_yield}
 
 -- ---- reading
 
+-- three decimals, if all three are there
 abbrev pub triple_of : Numbers → Option (ℕ × ℕ × ℕ)
 triple_of none = None
 triple_of (are ns) = Some (get_or ns 0 0, get_or ns 1 0, get_or ns 2 0)
@@ -36,7 +37,16 @@ abbrev pub tabbed : List ℕ → Bool
 tabbed [] = false
 tabbed (x ∷ l) = eqb x tab
 
--- what is asked, a line or a frame being read already
+-- what is asked, a line or a frame being read already, if anything can be read
+abbrev pub entry_in : Asks → Option Entry
+entry_in (adds zone address range) = Some (Add zone address range)
+entry_in (removes zone) = Some (Remove zone)
+entry_in (reports zone state actual) = Some (Report zone state actual)
+entry_in (says zone line) = Some (Text zone (line_read line))
+entry_in (frames bytes) = Some (Frame (frame_read bytes))
+entry_in unreadable = None
+
+-- the same, with an entry for what cannot
 abbrev pub entry_of : Asks → Entry
 entry_of (adds zone address range) = Add zone address range
 entry_of (removes zone) = Remove zone
@@ -61,6 +71,7 @@ sought_of (Text zone parsed) = None
 sought_of (Frame framed) = frame_sought framed
 sought_of Unreadable = None
 
+-- who holds the address, where one is to be looked up
 abbrev pub look_up : Record → Option ℕ → Option ℕ
 look_up r None = None
 look_up r (Some address) = find_of r address

@@ -2,7 +2,7 @@
 ghost use Rattle.std.specs.Prelude.{◌≡◌, drop};
 ghost use Rattle.journal.specs.Lines.{decimals, add_asks, remove_asks, report_asks, text_asks, frame_asks, asks_of};
 ghost use Rattle.texts.specs.Inner.{digit_values};
-ghost use Rattle.journal.specs.Inner.{triple_of, entry_of, tabbed};
+ghost use Rattle.journal.specs.Inner.{triple_of, entry_in, entry_of, tabbed};
 
 use frame::Framed;
 use texts::{behind_tab, digit_values, unhex, zone_at};
@@ -32,32 +32,26 @@ fn three(line: &[u8]) -> Option<(u32, u32, u32)>
     Some((a, b, c))
 }
 
-fn add(line: &[u8]) -> Entry
-    ensures { result ≡ entry_of (add_asks (decimals 3 (drop 1 line.now))) }
+fn add(line: &[u8]) -> Option<Entry>
+    ensures { result ≡ entry_in (add_asks (decimals 3 (drop 1 line.now))) }
 {
-    three(line).map_or(Entry::Unreadable, |(zone, address, range)| {
-        Entry::Add(zone as usize, address, range)
-    })
+    three(line).map(|(zone, address, range)| Entry::Add(zone as usize, address, range))
 }
 
-fn report(line: &[u8]) -> Entry
-    ensures { result ≡ entry_of (report_asks (decimals 3 (drop 1 line.now))) }
+fn report(line: &[u8]) -> Option<Entry>
+    ensures { result ≡ entry_in (report_asks (decimals 3 (drop 1 line.now))) }
 {
-    three(line).map_or(Entry::Unreadable, |(zone, state, actual)| {
-        Entry::Report(zone as usize, state, actual)
-    })
+    three(line).map(|(zone, state, actual)| Entry::Report(zone as usize, state, actual))
 }
 
-fn remove(line: &[u8]) -> Entry
-    ensures { result ≡ entry_of (remove_asks (decimals 1 (drop 1 line.now))) }
+fn remove(line: &[u8]) -> Option<Entry>
+    ensures { result ≡ entry_in (remove_asks (decimals 1 (drop 1 line.now))) }
 {
-    let Some((zone, i)) = behind_tab(line, 1) else {
-        return Entry::Unreadable;
-    };
+    let (zone, i) = behind_tab(line, 1)?;
     if i < line.len() {
-        return Entry::Unreadable;
+        return None;
     }
-    Entry::Remove(zone as usize)
+    Some(Entry::Remove(zone as usize))
 }
 
 // A tab stands behind the letter.
@@ -68,16 +62,14 @@ fn is_tabbed(line: &[u8]) -> bool
 }
 
 // The command is all that follows the second tab.
-fn text(line: &[u8]) -> Entry
-    ensures { result ≡ entry_of (text_asks (drop 1 line.now)) }
+fn text(line: &[u8]) -> Option<Entry>
+    ensures { result ≡ entry_in (text_asks (drop 1 line.now)) }
 {
     if !is_tabbed(line) {
-        return Entry::Unreadable;
+        return None;
     }
-    let Some((zone, start)) = zone_at(line, 2) else {
-        return Entry::Unreadable;
-    };
-    Entry::Text(zone, line::read(&line[start..]).parsed)
+    let (zone, start) = zone_at(line, 2)?;
+    Some(Entry::Text(zone, line::read(&line[start..]).parsed))
 }
 
 // Reads the lines: the values of the digits, and a room for the bytes of a frame.
@@ -97,19 +89,31 @@ impl Reader {
     }
 
     // The frame's bytes are first put into the room.
-    fn frame(&mut self, line: &[u8]) -> Entry
-        ensures { result ≡ entry_of (frame_asks (drop 1 line.now)) }
+    fn frame(&mut self, line: &[u8]) -> Option<Entry>
+        ensures { result ≡ entry_in (frame_asks (drop 1 line.now)) }
     {
-        if !is_tabbed(line) {
-            return Entry::Unreadable;
-        }
         // the letter, the tab and 522 digits
-        if 524 < line.len() {
-            return Entry::Unreadable;
+        if !is_tabbed(line) || 524 < line.len() {
+            return None;
         }
-        match unhex(&line[2..], &self.values, &mut self.room) {
-            Some(n) => Entry::Frame(frame::read(&self.room[..n])),
-            None => Entry::Unreadable,
+        let n = unhex(&line[2..], &self.values, &mut self.room)?;
+        Some(Entry::Frame(frame::read(&self.room[..n])))
+    }
+
+    // What a line asks, if it can be read.
+    fn read(&mut self, line: &[u8]) -> Option<Entry>
+        ensures { result ≡ entry_in (asks_of line.now) }
+    {
+        if 600 < line.len() {
+            return None;
+        }
+        match line.first()? {
+            b'N' => add(line),
+            b'X' => remove(line),
+            b'M' => report(line),
+            b'T' => text(line),
+            b'F' => self.frame(line),
+            _ => None,
         }
     }
 
@@ -117,19 +121,6 @@ impl Reader {
     pub fn asks(&mut self, line: &[u8]) -> Entry
         ensures { result ≡ entry_of (asks_of line.now) }
     {
-        if 600 < line.len() {
-            return Entry::Unreadable;
-        }
-        if line.is_empty() {
-            return Entry::Unreadable;
-        }
-        match line[0] {
-            b'N' => add(line),
-            b'X' => remove(line),
-            b'M' => report(line),
-            b'T' => text(line),
-            b'F' => self.frame(line),
-            _ => Entry::Unreadable,
-        }
+        self.read(line).unwrap_or(Entry::Unreadable)
     }
 }

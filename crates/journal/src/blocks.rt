@@ -36,17 +36,15 @@ fn lines(given: Record, block: &[u8], out: &mut [u8]) -> Done
     let mut r = given;
     let mut at = 0;
     let mut filled = 0;
-    // A step is a line long, and ends the loop where no line feed is left: no range or iterator counts it.
+    // Only lines that are ended are answered, and where the last of them ends is handed on: `Lines` gives the line under
+    // way too, and no line's end.
     loop {
         let end = line_end(block, at);
         if block.len() <= end {
             break;
         }
         let entry = reader.asks(&block[at..end]);
-        let found = match whom(entry) {
-            None => None,
-            Some(address) => r.find(address),
-        };
+        let found = whom(entry).and_then(|address| r.find(address));
         let n = place(entry, found);
         let z = r.zones[n];
         let verdict = judged(fit, entry, found, z);

@@ -57,10 +57,7 @@ fn asked_of_holder(
 ) -> Result<Command, Refusal>
     ensures { result ≡ steps.asked_of_holder found asked }
 {
-    match found {
-        Some(_) => asked,
-        None => Err(Refusal::NobodyHolds),
-    }
+    found.ok_or(Refusal::NobodyHolds).and(asked)
 }
 
 fn asked_framed(framed: Framed, found: Option<usize>) -> Result<Command, Refusal>

@@ -66,7 +66,7 @@ fn put_reply(entry: Entry, answer: Answer, room: &mut [u8]) -> usize
     }
 }
 
-// The reply, or "-" where there is none.
+// The reply, or "-" where there is none: 0 bytes, by the contracts of `put_text` and `put_frame`.
 fn put_reply_or_dash(entry: Entry, answer: Answer, room: &mut [u8]) -> usize
     requires { 32 ≤ length room.old }
     ensures { Filled (or_dash (reply_of entry (number_of answer) (values_of answer))) room.old room.new result }

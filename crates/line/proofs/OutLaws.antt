@@ -1,9 +1,12 @@
 -- The place of the first figure out of its range, or of a window's end, by the five tests of the row and its rule. Assumes nothing.
 use Prim.Native.Nat.{ℕ, ◌+◌}
-use mathlib.Core.Path.{◌≡◌, refl}
-use mathlib.Core.Bool.{Bool, true, false, cond, ◌&&◌}
+use mathlib.Core.Path.{◌≡◌, refl, ◌∙◌}
+use mathlib.Core.Bool.{Bool, true, false, not, cond, ◌&&◌}
 use mathlib.Core.List.{List, [], ◌∷◌}
-use lib.ListN.{get_or}
+use lib.Dec.{ltb}
+use lib.ListN.{length, get_or}
+use Rattle.std.specs.List.{position_or_len}
+use Rattle.std.proofs.Common.{Option, Some, None}
 use Rattle.zone.specs.declared.figures.Figures.{Figures}
 use Rattle.zone.specs.declared.figures.Figures.TheVariants.{AhueDeadline, AhueWindow, HzbgLimit, RrueReference, SolwSetpoint}
 use Rattle.zone.specs.Lists.{every}
@@ -44,3 +47,35 @@ out_told range (AhueWindow f) fits rule e o = rw (e, o, out_else_lem, told_cond,
 out_told range (HzbgLimit f) fits rule e o = rw (e, o, out_else_lem, told_cond)
 out_told range (RrueReference f) fits rule e o = rw (e, o, out_else_lem, told_cond, told_cond, told_cond)
 out_told range (SolwSetpoint f) fits rule e o = rw (e, o, out_else_lem, told_cond)
+
+-- the library's search for the first of the five that does not fit, and the place that it tells
+abbrev pub found : List Bool → Option ℕ
+found fits = cond (ltb (position_or_len not fits) (length fits)) (Some (position_or_len not fits)) None
+
+abbrev pub place_by : Option ℕ → Bool → ℕ
+place_by (Some i) rule = get_or (6 ∷ 8 ∷ 12 ∷ 16 ∷ 20 ∷ []) i 0
+place_by None rule = cond rule 0 20
+
+by_five : (a b c d e rule : Bool) → place_by (found (a ∷ b ∷ c ∷ d ∷ e ∷ [])) rule ≡ first_out (a ∷ b ∷ c ∷ d ∷ e ∷ []) rule
+by_five false b c d e rule = refl
+by_five true false c d e rule = refl
+by_five true true false d e rule = refl
+by_five true true true false e rule = refl
+by_five true true true true false rule = refl
+by_five true true true true true rule = refl
+
+abbrev five_of : List Bool → List Bool
+five_of fits = get_or fits 0 false ∷ get_or fits 1 false ∷ get_or fits 2 false ∷ get_or fits 3 false ∷ get_or fits 4 false ∷ []
+
+first_five : (fits : List Bool) (rule : Bool) → place_by (found (five_of fits)) rule ≡ first_out (five_of fits) rule
+first_five fits rule = by_five (get_or fits 0 false) (get_or fits 1 false) (get_or fits 2 false) (get_or fits 3 false) (get_or fits 4 false) rule
+
+first_is : (range : ℕ) (f : Figures) (rule : Bool) → place_by (found (five_fit range f)) rule ≡ first_out (five_fit range f) rule
+first_is range (AhueDeadline f) rule = first_five (five_fit range (AhueDeadline f)) rule
+first_is range (AhueWindow f) rule = first_five (five_fit range (AhueWindow f)) rule
+first_is range (HzbgLimit f) rule = first_five (five_fit range (HzbgLimit f)) rule
+first_is range (RrueReference f) rule = first_five (five_fit range (RrueReference f)) rule
+first_is range (SolwSetpoint f) rule = first_five (five_fit range (SolwSetpoint f)) rule
+
+pub found_told : (range : ℕ) (f : Figures) (fits : List Bool) (r : Option ℕ) (rule : Bool) → r ≡ found fits → fits ≡ five_fit range f → rule ≡ opens f → place_by r rule ≡ told (out_of range f)
+found_told range f fits r rule e i o = rw (e, i) (first_is range f rule ∙ out_told range f (five_fit range f) rule refl o)

@@ -1,7 +1,7 @@
 -- A field of a line, and the number that its digits make.
-use Rattle.std.specs.Prelude.{ℕ, ◌+◌, ◌-◌, ◌*◌, cond, List, [], ◌∷◌, length, get_or, drop, ltb, eqb, None, Option, Some}
+use Rattle.std.specs.Prelude.{ℕ, ◌+◌, ◌-◌, ◌*◌, cond, Option, Some, None, List, [], ◌∷◌, length, get_or, drop, ltb, eqb}
 
--- the bytes up to the first space, or all
+-- the bytes up to the first space (32), or all
 unfoldable pub up_to_space : List ℕ → List ℕ
 up_to_space [] = []
 up_to_space (x ∷ xs) = cond (eqb x 32) [] (x ∷ up_to_space xs)
@@ -10,7 +10,7 @@ up_to_space (x ∷ xs) = cond (eqb x 32) [] (x ∷ up_to_space xs)
 abbrev pub field_of : List ℕ → ℕ → List ℕ
 field_of l at = up_to_space (drop (at + 1) l)
 
--- digit by digit, behind a number n that was read so far; a byte that is no digit, 0 to 9, spoils it
+-- digit by digit, behind a number n that was read so far; where a byte is no digit, 0 to 9 (48 to 57), there is None
 unfoldable pub digits_behind : ℕ → List ℕ → Option ℕ
 digits_behind n [] = Some n
 digits_behind n (x ∷ xs) = cond (ltb x 48) None (cond (ltb 57 x) None (digits_behind (n * 10 + (x - 48)) xs))

@@ -1,5 +1,5 @@
 -- What a function on the way comes to. No rule of document 01 or 02 stands here, and no contract of a public function cites it, but that of `digits`, with which a log's decimals are read too.
-use Rattle.std.specs.Prelude.{ℕ, zero, suc, ◌+◌, ◌-◌, ◌*◌, cond, List, [], ◌∷◌, length, get_or, ltb, leb, eqb, Option, Some, None, Result, Ok, Err}
+use Rattle.std.specs.Prelude.{ℕ, zero, suc, ◌+◌, ◌-◌, ◌*◌, cond, Option, Some, None, Result, Ok, Err, List, [], ◌∷◌, length, get_or, ltb, leb, eqb}
 use Rattle.zone.specs.declared.figures.Figures.{Figures}
 use Rattle.zone.specs.declared.figures.Command.TheVariants.{Write}
 use Rattle.zone.specs.Table.{Column, digits, Form, layout}
@@ -57,6 +57,7 @@ abbrev pub walk : List Column → List ℕ → ℕ → Result (List ℕ) ℕ
 walk [] l at = cond (eqb (length l) at) (Ok []) (Err at)
 walk (k ∷ ks) l at = onward (figure_read l at (digits k.kind)) (walk ks l (at + (1 + digits k.kind)))
 
+-- the figures that the numbers of a row make
 abbrev pub made_by : Form → Result (List ℕ) ℕ → Result Figures ℕ
 made_by form (Err i) = Err i
 made_by form (Ok ns) = Ok (made form ns)
@@ -69,6 +70,7 @@ form_walked form l = made_by form (walk (layout form).columns l 5)
 abbrev pub whole_of : List ℕ → ℕ → Figures → Result Figures ℕ
 whole_of l n figures = cond (eqb (length l) n) (Ok figures) (Err n)
 
+-- a syntax error at that offset
 abbrev pub misread : ℕ → Reading
 misread place = record { parsed = Err Syntax; place = place }
 

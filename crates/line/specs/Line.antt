@@ -1,14 +1,14 @@
 -- The line of a command, and the command of a line.
-use Rattle.std.specs.Prelude.{ℕ, zero, suc, ◌+◌, ◌/◌, ◌%◌, ◌^◌, Bool, true, false, cond, List, [], ◌∷◌, ◌++◌, length, get_or, take, drop, ltb, eqb, Err, None, Option, Some}
+use Rattle.std.specs.Prelude.{ℕ, zero, suc, ◌+◌, ◌/◌, ◌%◌, ◌^◌, Bool, true, false, cond, Option, Some, None, Err, List, [], ◌∷◌, ◌++◌, length, get_or, take, drop, ltb, eqb}
 use Rattle.zone.specs.declared.figures.Group.{Group}
 use Rattle.zone.specs.declared.figures.Figures.{Figures}
 use Rattle.zone.specs.declared.figures.Command.{Command}
 use Rattle.zone.specs.declared.figures.Command.TheVariants.{Read, Write}
 use Rattle.zone.specs.Table.{digits, name, every_group}
 use Rattle.zone.specs.Figures.{group_of}
-use Rattle.wire.specs.Road.{Road, figure_bytes, command_read, Parsed}
-use Rattle.line.specs.Field.{figure_of}
 use Rattle.wire.specs.declared.Misread.TheVariants.{Unknown}
+use Rattle.wire.specs.Road.{Road, Parsed, figure_bytes, command_read}
+use Rattle.line.specs.Field.{figure_of}
 
 -- the last `width` decimal digits of n, "with leading zeros"
 abbrev pub digits_for : ℕ → ℕ → List ℕ
@@ -55,10 +55,12 @@ same [] (y ∷ ys) = false
 same (x ∷ xs) [] = false
 same (x ∷ xs) (y ∷ ys) = cond (eqb x y) (same xs ys) false
 
+-- the first group of a list that has that name, if there is one
 abbrev pub first_named : List Group → List ℕ → Option Group
 first_named [] l = None
 first_named (group ∷ groups) l = cond (same l (name group)) (Some group) (first_named groups l)
 
+-- the group of that name, if there is one
 unfoldable pub group_named : List ℕ → Option Group
 group_named l = first_named every_group l
 

@@ -1,5 +1,5 @@
 -- Where a line is wrong: document 02, Req 04, "Say where the line is wrong", and of a window Req 06. An offset counts the line's bytes from 0.
-use Rattle.std.specs.Prelude.{ℕ, zero, suc, ◌+◌, ◌-◌, Bool, cond, ◌||◌, List, [], ◌∷◌, ◌++◌, length, get_or, take, drop, ltb, eqb, Err, None, Ok, Option, Some}
+use Rattle.std.specs.Prelude.{ℕ, zero, suc, ◌+◌, ◌-◌, Bool, cond, ◌||◌, Option, Some, None, Ok, Err, List, [], ◌∷◌, ◌++◌, length, get_or, take, drop, ltb, eqb}
 use Rattle.zone.specs.declared.figures.Group.{Group}
 use Rattle.zone.specs.declared.figures.Group.TheVariants.{Ahue, Hzbg, Rrue, Solw}
 use Rattle.zone.specs.declared.figures.Figures.{Figures}
@@ -7,11 +7,11 @@ use Rattle.zone.specs.declared.figures.Command.TheVariants.{Read, Write}
 use Rattle.zone.specs.Lists.{within}
 use Rattle.zone.specs.Table.{time, Column, digits, Form, deadline, window, hzbg, rrue, solw, layout}
 use Rattle.zone.specs.Figures.{Entry, entries_of, fits, each_in_range, opens}
-use Rattle.wire.specs.Road.{length_of, Parsed}
+use Rattle.wire.specs.declared.Misread.TheVariants.{Syntax, Unknown}
+use Rattle.wire.specs.Road.{Parsed, length_of}
 use Rattle.line.specs.declared.expecting.Expects.{Expects}
 use Rattle.line.specs.declared.expecting.Expects.TheVariants.{Space, Digit, Nothing}
 use Rattle.line.specs.Line.{L, S, text_road, group_named}
-use Rattle.wire.specs.declared.Misread.TheVariants.{Syntax, Unknown}
 
 -- nothing is wrong, or it is at that offset
 pub data Place : Type 0 where

@@ -1,5 +1,5 @@
 -- Rules of the text road that are proved of its definitions. Above each stands where.
-use Rattle.std.specs.Prelude.{ℕ, ◌-◌, ◌≤◌, ◌<◌, ◌^◌, ◌≡◌, ◌↔◌, true, false, List, [], ◌∷◌, map, length, get_or, drop, Err, Ok, Some}
+use Rattle.std.specs.Prelude.{ℕ, ◌-◌, ◌≤◌, ◌<◌, ◌^◌, ◌≡◌, ◌↔◌, true, false, Some, Ok, Err, List, [], ◌∷◌, map, length, get_or, drop}
 use Rattle.zone.specs.declared.figures.Figures.{Figures}
 use Rattle.zone.specs.declared.figures.Figures.TheVariants.{AhueWindow}
 use Rattle.zone.specs.declared.figures.WindowFigures.{WindowFigures}
@@ -7,11 +7,11 @@ use Rattle.zone.specs.declared.figures.Command.{Command}
 use Rattle.zone.specs.Table.{every_form}
 use Rattle.zone.specs.declared.figures.Command.TheVariants.{Write}
 use Rattle.zone.specs.Figures.{each_in_range, in_range}
+use Rattle.wire.specs.declared.Misread.TheVariants.{Syntax}
 use Rattle.wire.specs.Road.{carries_command, length_of}
 use Rattle.line.specs.Field.{digits_of}
 use Rattle.line.specs.Line.{digits_for, text_road, line_of, line_read}
 use Rattle.line.specs.Places.{offset, wrong_from, wrong_in, out_of, expected_in}
-use Rattle.wire.specs.declared.Misread.TheVariants.{Syntax}
 
 -- "The rule for a digit field is proved once over its width": a field is read as n exactly where it is the `width` digits of n. `digit_field`, in proofs/DigitRule.antt
 abbrev pub DigitField : Type 0

@@ -11,6 +11,7 @@ use zone::Group;
 pub enum Expects {
     Space,
     Digit,
+    // a case of its own, and no None: it is told in words of its own, as the others are
     Nothing,
 }
 
@@ -18,13 +19,11 @@ pub enum Expects {
 fn in_pattern(pattern: &[u8], i: usize) -> Expects
     ensures { result ≡ pattern_at pattern.now i }
 {
-    if pattern.len() <= i {
-        return Expects::Nothing;
+    match pattern.get(i) {
+        Some(b' ') => Expects::Space,
+        Some(_) => Expects::Digit,
+        None => Expects::Nothing,
     }
-    if pattern[i] == b' ' {
-        return Expects::Space;
-    }
-    Expects::Digit
 }
 
 // What a write of `length` bytes to a group expects, i bytes behind its five letters.
@@ -39,9 +38,8 @@ fn write_expects(group: Group, length: usize, i: usize) -> Expects
                 in_pattern(b" 0 000 000 000", i)
             }
         }
-        Group::Hzbg => in_pattern(b" 000", i),
+        Group::Hzbg | Group::Solw => in_pattern(b" 000", i),
         Group::Rrue => in_pattern(b" 0 000 000", i),
-        Group::Solw => in_pattern(b" 000", i),
     }
 }
 

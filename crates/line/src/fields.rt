@@ -10,13 +10,12 @@ pub fn field(line: &[u8], at: usize) -> &[u8]
     if line.len() <= at {
         return &line[0..0];
     }
-    let start = at + 1;
-    for end in start..line.len() {
-        if line[end] == b' ' {
-            return &line[start..end];
-        }
-    }
-    &line[start..]
+    let behind = &line[at + 1..];
+    let end = behind
+        .iter()
+        .position(|x| *x == b' ')
+        .unwrap_or(behind.len());
+    &behind[..end]
 }
 
 // The number that exactly `width` digits make, or the index of the first that is wrong: of a byte that is

@@ -21,22 +21,17 @@ pub struct Reading {
     pub place: usize,
 }
 
+#[tactic(auto, using(crate::proofs::Same::none_shorter, crate::proofs::Same::none_longer), unfolding(crate::specs::Line::group_named, crate::specs::Line::same))]
 pub fn named(part: &[u8]) -> Option<Group>
     ensures { result ≡ group_named part.now }
 {
-    if part == b"AHUE".as_slice() {
-        return Some(Group::Ahue);
+    match part {
+        b"AHUE" => Some(Group::Ahue),
+        b"HZBG" => Some(Group::Hzbg),
+        b"RRUE" => Some(Group::Rrue),
+        b"SOLW" => Some(Group::Solw),
+        _ => None,
     }
-    if part == b"HZBG".as_slice() {
-        return Some(Group::Hzbg);
-    }
-    if part == b"RRUE".as_slice() {
-        return Some(Group::Rrue);
-    }
-    if part == b"SOLW".as_slice() {
-        return Some(Group::Solw);
-    }
-    None
 }
 
 // Flag, lower and upper limit, with which three of the rows begin; or where one of them is wrong.
@@ -202,26 +197,11 @@ pub fn read(line: &[u8]) -> Reading
 fn first_out(figures: Figures, range: u32) -> usize
     ensures { result ≡ told (out_of range figures) }
 {
-    let fits = figures.fits(range);
-    if !fits[0] {
-        return 6;
+    match figures.fits(range).iter().position(|fit| !*fit) {
+        Some(i) => [6, 8, 12, 16, 20][i],
+        None if figures.opens() => 0,
+        None => 20,
     }
-    if !fits[1] {
-        return 8;
-    }
-    if !fits[2] {
-        return 12;
-    }
-    if !fits[3] {
-        return 16;
-    }
-    if !fits[4] {
-        return 20;
-    }
-    if !figures.opens() {
-        return 20;
-    }
-    0
 }
 
 // The same of a line that was read: only a write has figures.

@@ -2,6 +2,7 @@
 // public functions, `put_head` alone asks for its length.
 ghost use Rattle.std.specs.Prelude.{◌≡◌, ◌+◌, ◌/◌, ◌%◌, ◌≤◌, ◌<◌, ◌∷◌, ◌++◌, length};
 ghost use Rattle.zone.specs.declared.figures.Command.TheVariants as command;
+ghost use Rattle.zone.specs.Table as table;
 ghost use Rattle.wire.specs.Road as road;
 ghost use Rattle.wire.specs.Room.{Filled};
 ghost use Rattle.line.specs.Line.{digits_for, text_road, line_with, line_of};
@@ -41,14 +42,25 @@ fn watched(flag: u32, lower: u32, upper: u32) -> [u8; 10]
     ]
 }
 
+fn name(group: Group) -> &'static [u8; 4]
+    ensures { result.now ≡ table.name group }
+{
+    match group {
+        Group::Ahue => b"AHUE",
+        Group::Hzbg => b"HZBG",
+        Group::Rrue => b"RRUE",
+        Group::Solw => b"SOLW",
+    }
+}
+
 // A letter and a name, with which each line begins.
-fn put_head(letter: u8, name: &[u8; 4], room: &mut [u8]) -> usize
+fn put_head(letter: u8, group: Group, room: &mut [u8]) -> usize
     requires { 32 ≤ length room.old }
     ensures count { result ≡ 5 }
-    ensures head { Filled (letter ∷ name.now) room.old room.new result }
+    ensures head { Filled (letter ∷ table.name group) room.old room.new result }
 {
     let at = wire::copy(&[letter], room);
-    wire::append(name, room, at)
+    wire::append(name(group), room, at)
 }
 
 // The line of figures, with the letter of a write or of a reply.
@@ -56,30 +68,20 @@ pub fn put_figures(letter: u8, figures: Figures, room: &mut [u8]) -> usize
     requires { 32 ≤ length room.old }
     ensures { Filled (line_with letter figures) room.old room.new result }
 {
+    let at = put_head(letter, figures.group(), room);
     match figures {
         Figures::AhueDeadline(f) => {
-            let at = put_head(letter, b"AHUE", room);
             let at = wire::append(&watched(f.flag, f.lower, f.upper), room, at);
             wire::append(&figure(f.time), room, at)
         }
         Figures::AhueWindow(f) => {
-            let at = put_head(letter, b"AHUE", room);
             let at = wire::append(&watched(f.flag, f.lower, f.upper), room, at);
             let at = wire::append(&figure(f.begin), room, at);
             wire::append(&figure(f.end), room, at)
         }
-        Figures::HzbgLimit(f) => {
-            let at = put_head(letter, b"HZBG", room);
-            wire::append(&figure(f.time), room, at)
-        }
-        Figures::RrueReference(f) => {
-            let at = put_head(letter, b"RRUE", room);
-            wire::append(&watched(f.flag, f.lower, f.upper), room, at)
-        }
-        Figures::SolwSetpoint(f) => {
-            let at = put_head(letter, b"SOLW", room);
-            wire::append(&figure(f.setpoint), room, at)
-        }
+        Figures::HzbgLimit(f) => { wire::append(&figure(f.time), room, at) }
+        Figures::RrueReference(f) => { wire::append(&watched(f.flag, f.lower, f.upper), room, at) }
+        Figures::SolwSetpoint(f) => { wire::append(&figure(f.setpoint), room, at) }
     }
 }
 
@@ -88,12 +90,7 @@ pub fn put_read(group: Group, room: &mut [u8]) -> usize
     requires { 32 ≤ length room.old }
     ensures { Filled (line_of (command.Read group)) room.old room.new result }
 {
-    match group {
-        Group::Ahue => wire::copy(b"LAHUE", room),
-        Group::Hzbg => wire::copy(b"LHZBG", room),
-        Group::Rrue => wire::copy(b"LRRUE", room),
-        Group::Solw => wire::copy(b"LSOLW", room),
-    }
+    put_head(b'L', group, room)
 }
 
 // The figures fit their digits.

@@ -5,7 +5,7 @@ ghost use Rattle.texts.specs.Texts.{lines_of};
 ghost use Rattle.recipes.specs.Inner.{ill_formed, CutOut};
 
 use card::Refusal;
-use texts::{line_end, zone_at};
+use texts::{Lines, zone_at};
 
 // A line of a recipe: the zone that it is for, and its command.
 #[derive(Clone, Copy)]
@@ -21,13 +21,10 @@ pub fn survey<'a>(recipe: &'a [u8], cuts: &mut [Cut<'a>; 64]) -> (usize, Result<
     ensures cut { OnOk result.1 (CutOut (lines_of recipe.now) cuts.new) }
     ensures ill { IfErr result.1 (λ why. (why ≡ NoRecipe) × (ill_formed (lines_of recipe.now) ≡ true)) }
 {
+    // counted here, and not by `enumerate`: the count is returned
     let mut lines = 0;
     let mut formed = Ok(());
-    let mut at = 0;
-    // A step is a line long. The library's `split` has an empty part more behind a last line feed, which is no line.
-    while at < recipe.len() {
-        let end = line_end(recipe, at);
-        let line = &recipe[at..end];
+    for line in Lines::new(recipe) {
         match zone_at(line, 0) {
             Some((zone, start)) if lines < 64 => {
                 cuts[lines] = Cut {
@@ -38,7 +35,6 @@ pub fn survey<'a>(recipe: &'a [u8], cuts: &mut [Cut<'a>; 64]) -> (usize, Result<
             _ => formed = Err(Refusal::NoRecipe),
         }
         lines += 1;
-        at = end + 1;
     }
     (lines, formed)
 }

@@ -21,7 +21,8 @@ pub struct Loaded {
     pub after: Record,
 }
 
-// Why a recipe is refused, and the number of the line and the place in it, if a line is refused.
+// Why a recipe is refused, and the number of the line and the place in it, if a line is refused; otherwise 0 and 0, as
+// they become those of `Loaded`.
 #[derive(Clone, Copy)]
 struct Stopped {
     why: Refusal,
@@ -49,6 +50,7 @@ fn try_lines(r: &mut Record, cuts: &[Cut], answers: &mut [Answer; 64]) -> Result
     ensures done { OnOk result (try_from 0 r.old (map cut_seen cuts.now) ≡ all_done (map told (take (length cuts.now) answers.new)) r.new) }
     ensures stopped { IfErr result (StopsAs (try_from 0 r.old (map cut_seen cuts.now))) }
 {
+    // By index, as in texts' `unhex`: of what is written through a `zip` nothing is known behind the loop.
     for (k, cut) in cuts.iter().enumerate() {
         let reading = line::read(cut.command);
         let z = &mut r.zones[one_of_sixteen(cut.zone)];

@@ -12,6 +12,7 @@ pub fn put_replies(answers: &[Answer], room: &mut [u8]) -> [usize; 64]
     ensures value { result ≡ lengths_of (map told answers.now) }
 {
     let mut lengths = [0; 64];
+    // By index, as in texts' `unhex`: of what is written through a `zip` nothing is known behind the loop.
     for (k, answer) in answers.iter().enumerate() {
         lengths[k] = put_text(*answer, &mut room[32 * k..]);
     }

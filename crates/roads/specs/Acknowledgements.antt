@@ -1,5 +1,5 @@
 -- What is answered on the wire: document 01's column "Reply", and the acknowledgements of sections 5.2 and 5.3 of source document 001, paired by their cause.
-use Rattle.std.specs.Prelude.{ℕ, cond, List, [], ◌∷◌, eqb, None, Option, Some}
+use Rattle.std.specs.Prelude.{ℕ, cond, Option, Some, None, List, [], ◌∷◌, eqb}
 use Rattle.zone.specs.declared.figures.Figures.{Figures}
 use Rattle.zone.specs.Lists.{is_zero, ascii}
 use Rattle.roads.specs.declared.answering.Acknowledgement.{Acknowledgement}
@@ -33,7 +33,7 @@ function_of CommandLock = 0x08
 -- bit 5: "the checksum PS is defective"
 function_of TransferError = 0x20
 
--- "Reply", for the numbers of refusals; 9 is a "syntax error on the two roads, else none", and most have none
+-- "Reply", for the numbers of refusals; 9 is a "syntax error on the two roads, else none"; most have none (None)
 abbrev pub reply_to : ℕ → Option Acknowledgement
 reply_to number =
     cond (eqb number 6) (Some TransferError)
@@ -45,6 +45,7 @@ reply_to number =
 
 -- ---- the text road
 
+-- what is replied: nothing, or the acknowledgement
 abbrev pub in_text : Option Acknowledgement → List ℕ
 in_text None = []
 in_text (Some a) = text_of a
@@ -62,6 +63,7 @@ text_reply number values = cond (is_zero number) (text_done values) (text_refusa
 
 -- ---- the frame road
 
+-- the same, under an address
 abbrev pub in_frame : ℕ → Option Acknowledgement → List ℕ
 in_frame address None = []
 in_frame address (Some a) = short_frame address (function_of a)

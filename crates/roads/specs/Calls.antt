@@ -1,5 +1,5 @@
 -- What each call of the two roads comes to, for every record, all bytes and every room. Its refusals stand in document 01's order.
-use Rattle.std.specs.Prelude.{ℕ, Bool, true, false, cond, not, ◌&&◌, List, [], ◌∷◌, ltb, eqb, Err, Ok, None, Option, Some}
+use Rattle.std.specs.Prelude.{ℕ, Bool, true, false, cond, not, ◌&&◌, Option, Some, None, Ok, Err, List, [], ◌∷◌, ltb, eqb}
 use lib.ListN.{length, take}
 use Rattle.zone.specs.declared.figures.Figures.{Figures}
 use Rattle.zone.specs.declared.figures.Command.{Command}
@@ -11,7 +11,8 @@ use Rattle.card.specs.Answers.{Result, number_of, values_of}
 use Rattle.card.specs.Refusals.{Row, ◌gives◌, first, settled}
 use Rattle.card.specs.Records.{zone_at, with_zone, sound, find_of, no_zone}
 use Rattle.card.specs.Calls.{Judgement, command_at}
-use Rattle.wire.specs.Road.{carries_command, Parsed}
+use Rattle.wire.specs.declared.Misread.TheVariants.{Syntax, Unknown}
+use Rattle.wire.specs.Road.{Parsed, carries_command}
 use Rattle.wire.specs.Room.{filled}
 use Rattle.line.specs.Line.{text_road, line_of, line_read}
 use Rattle.line.specs.Places.{told, wrong_in, out_in}
@@ -19,7 +20,6 @@ use Rattle.frame.specs.Frame.{frame_road, frame_of, shaped, body_in, address_in,
 use Rattle.roads.specs.declared.calls.Replied.{Replied}
 use Rattle.roads.specs.declared.composing.Composed.{Composed}
 use Rattle.roads.specs.Acknowledgements.{text_reply, frame_reply}
-use Rattle.wire.specs.declared.Misread.TheVariants.{Syntax, Unknown}
 
 -- what is answered: number and values, the length of the reply, and the room afterwards
 pub record Said : Type 0 where

@@ -1,5 +1,5 @@
 -- What the functions below the calls come to. No rule of document 01 stands here: the promises of the calls do not cite it.
-use Rattle.std.specs.Prelude.{ℕ, Bool, cond, not, ◌||◌, List, [], ◌∷◌, leb, ltb, eqb, Err, Ok, None, Option, Some}
+use Rattle.std.specs.Prelude.{ℕ, Bool, cond, not, ◌||◌, Option, Some, None, Ok, Err, List, [], ◌∷◌, leb, ltb, eqb}
 use Rattle.zone.specs.declared.zones.Zone.{Zone}
 use Rattle.card.specs.declared.answers.Refusal.{Refusal}
 use Rattle.card.specs.declared.answers.Refusal.TheVariants as refusal
@@ -16,6 +16,7 @@ use Rattle.roads.specs.Calls.{Answered, replied_seen, in_frame_reply}
 use Rattle.wire.specs.declared.Misread.TheVariants.{Syntax, Unknown}
 use Rattle.wire.specs.Road.{Parsed}
 
+-- what a line or a body brings to a zone: the command, or 7 or 8
 abbrev pub asked_by : Parsed → Asked
 asked_by (Ok command) = Ok command
 asked_by (Err Unknown) = Err refusal.Unknown

@@ -54,6 +54,8 @@ fn text_of(a: Acknowledgement) -> [u8; 5]
     }
 }
 
+// No reply has length 0 (in_text). Not by `map_or`: tried, and where the closure is not called, it stayed open that the room it
+// holds is as it was.
 fn put_in_text(reply: Option<Acknowledgement>, room: &mut [u8]) -> usize
     requires { 32 ≤ length room.old }
     ensures { Filled (in_text reply) room.old room.new result }
@@ -84,6 +86,7 @@ fn function_of(a: Acknowledgement) -> u8
     a as u8
 }
 
+// As with a text: no reply has length 0 (in_frame), and `map_or` leaves the room open.
 fn put_in_frame(address: u8, reply: Option<Acknowledgement>, room: &mut [u8]) -> usize
     requires { 32 ≤ length room.old }
     ensures { Filled (in_frame address reply) room.old room.new result }

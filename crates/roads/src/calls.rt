@@ -74,7 +74,7 @@ pub fn text(r: Record, zone: usize, line: &[u8], room: &mut [u8]) -> Replied
     }
 }
 
-// The same; but 2 where the record is not sound.
+// A refusal without a reply; where the record is not sound, that refusal: 2.
 fn silent(r: Record, why: Refusal) -> Replied
     ensures { result ≡ silent_of r why }
 {
@@ -90,7 +90,7 @@ fn to_holder(r: Record, address: u8, asked: Result<Command, Refusal>, room: &mut
     requires { 32 ≤ length room.old }
     ensures { (replied_seen result room.new ≡ frame_at r address asked room.old) × (result.place ≡ 0) }
 {
-    match r.find(address as u32) {
+    match r.find(u32::from(address)) {
         None => silent(r, Refusal::NobodyHolds),
         Some(zone) => {
             let outcome = r.ask(zone, asked);

@@ -29,6 +29,9 @@ fn done(length: usize) -> Composed
     }
 }
 
+// The two calls share their shape. One function over a closure that puts was tried: `returns` of both stayed open, and what it
+// promises (three clauses over FnOnceReturnsAtMut) is longer than what they share.
+
 // The line of a command.
 #[tactic(auto, unfolding(crate::specs::Calls::composed_line))]
 pub fn compose_line(command: Command, room: &mut [u8]) -> Composed
@@ -57,9 +60,10 @@ pub fn compose_frame(address: u32, command: Command, room: &mut [u8]) -> Compose
     if room.len() < 32 {
         return refused(Refusal::NoRoom);
     }
-    if address < 1 || 254 < address {
+    if !zone::address_in_range(address) {
         return refused(Refusal::OutOfRange);
     }
+    // an address in range is a byte: `try_from` would have a refusal that never comes
     let byte = address as u8;
     match command {
         Command::Read(group) => done(frame::put_read(byte, group, room)),

@@ -1,15 +1,15 @@
 -- The lines of a recipe one at a time, and a line's zone and command. Assumes nothing.
 use Rattle.std.specs.Prelude.{None, Option, Some}
-use Prim.Native.Nat.{min, ℕ, zero, suc, ◌+◌, ◌-◌, ◌*◌, ◌≤◌, ◌<◌}
-use mathlib.Core.Path.{◌≡◌, ap, sym, ◌∙◌}
+use Prim.Native.Nat.{ℕ, zero, suc, ◌+◌, ◌-◌, ◌*◌, ◌≤◌, ◌<◌}
+use mathlib.Core.Path.{◌≡◌, ap}
 use mathlib.Core.Bool.{true, false}
 use mathlib.Core.List.{List, [], ◌∷◌, ◌++◌}
 use native.Mathlib.Omega.{arith}
 use lib.ListN.{length, take, drop, get_or, length-append, length-take, length-drop, get_or-eq_default, drop_of_length-le}
 use Rattle.std.proofs.lemmas.List.{drop_more}
-use lib.Seq.{take_all, drop-drop}
-use lib.Dec.{leb, ltb, eqb}
-use borrow.Author.Tests.{leb-true, ltb-true, ltb-false}
+use lib.Seq.{take_all}
+use lib.Dec.{leb, eqb}
+use borrow.Author.Tests.{leb-true}
 use Rattle.texts.specs.Texts.{index_of, ended_behind, begun_behind, unended}
 use Rattle.zone.specs.Zones.{empty_zone}
 use Rattle.card.specs.declared.records.Record.{Record}
@@ -18,40 +18,10 @@ use Rattle.card.specs.Inner.{range_at}
 use Rattle.texts.specs.Numbers.{decimal_of}
 use Rattle.texts.specs.Texts.{line_feed, tab, lines_of, field, onward, to, zoned_by, zoned}
 use Rattle.texts.specs.Inner.{zoned_seen, start_of}
-use Rattle.texts.proofs.Parts.{by_test, next_line, no_line, end_within}
+use Rattle.texts.proofs.Parts.{by_test}
 use Rattle.saying.specs.Loading.{reply_at, numbered, replies_from, marked, pointed_in}
 
--- ---- one line after the other
-
-pub no_more : (t : List ℕ) → length t ≡ 0 → lines_of t ≡ []
-no_more t h = no_line t 0 (omega arith)
-
-pub within_text : (t : List ℕ) (end : ℕ) → end ≡ 0 + index_of line_feed t → end ≤ length t
-within_text t end e = end_within t 0 end (omega arith) e
-
--- what is left behind a line and its line feed
-behind_line : (t : List ℕ) (end m : ℕ) → end ≤ length t → m ≡ min (length (drop end t)) 1 → take (length (drop end t) - m) (drop m (drop end t)) ≡ drop (end + 1) t
-behind_line t end m h k = take_all (length (drop end t) - m) (drop m (drop end t)) (omega (arith, length-drop m (drop end t))) ∙ by_test (ltb end (length t)) inner last
-  where
-    inner : ltb end (length t) ≡ true → drop m (drop end t) ≡ drop (end + 1) t
-    inner b =
-        let one : m ≡ 1 = omega (arith, length-drop end t, ltb-true end (length t) b) in
-        rw one (drop-drop 1 end t)
-
-    last : ltb end (length t) ≡ false → drop m (drop end t) ≡ drop (end + 1) t
-    last b =
-        let over : length t ≤ end = ltb-false end (length t) b in
-        let past : length t ≤ end + 1 = omega arith in
-        let none : m ≡ 0 = omega (arith, length-drop end t) in
-        rw none (drop_of_length-le t over ∙ sym (drop_of_length-le t past))
-
--- a line, and those behind it
-pub turn : (t line rest : List ℕ) (end m : ℕ) → 0 < length t → end ≡ 0 + index_of line_feed t → line ≡ take end t → rest ≡ drop end t → m ≡ min (length rest) 1
-    → lines_of t ≡ line ∷ lines_of (take (length rest - m) (drop m rest))
-turn t line rest end m h e f g k =
-    let d : m ≡ min (length (drop end t)) 1 = rw g at k in
-    let all : end - 0 ≡ end = omega arith in
-    next_line t 0 end h e ∙ rw (all, f, g, behind_line t end m (within_text t end e) d)
+-- ---- the lines
 
 -- no line is longer than the text
 first_or_later : (line : List ℕ) (lines : List (List ℕ)) (n most : ℕ) → length line ≤ most → ((k : ℕ) → length (get_or lines k []) ≤ most) → length (get_or (line ∷ lines) n []) ≤ most

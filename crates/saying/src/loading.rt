@@ -1,6 +1,5 @@
 // What is said of a recipe that was handed to the card: the replies to its lines, or why it was refused.
 ghost use Rattle.std.specs.Prelude.{◌≡◌, [], ℕ, ◌+◌, ◌*◌, ◌≤◌, length, take, get_or};
-ghost use Rattle.std.specs.Iterator.{YieldsFirstRef, item_count};
 ghost use Rattle.texts.specs.Texts.{lines_of};
 ghost use Rattle.card.specs.Answers.{refusal_number};
 ghost use Rattle.recipes.specs.Recipes.{loaded_seen};
@@ -12,31 +11,7 @@ use crate::saying::{Fault, write_meant};
 use crate::writing::Writer;
 use card::{Answer, Refusal};
 use recipes::Loaded;
-use texts::{line_end, zone_at};
-
-// What is left of a text, line by line.
-#[derive(Drop)]
-struct Lines<'a> {
-    rest: &'a [u8],
-}
-
-impl<'a> Iterator for Lines<'a> {
-    type Item = &'a [u8];
-
-    ghost next_gives = { YieldsFirstRef (λ s. lines_of s.rest.now) };
-
-    ghost remaining = { item_count (λ s. lines_of s.rest.now) };
-
-    #[tactic(auto, using(crate::proofs::Recipe::no_more, crate::proofs::Recipe::within_text, crate::proofs::Recipe::turn))]
-    fn next(&mut self) -> Option<&'a [u8]> {
-        if self.rest.is_empty() {
-            return None;
-        }
-        let (line, rest) = self.rest.split_at(line_end(self.rest, 0));
-        self.rest = &rest[rest.len().min(1)..];
-        Some(line)
-    }
-}
+use texts::{Lines, zone_at};
 
 // A line's number and its reply.
 fn write_numbered(number: u32, reply: &[u8], w: &mut Writer)
@@ -54,7 +29,7 @@ fn write_replies(recipe: &[u8], lengths: [usize; 64], room: &[u8], w: &mut Write
     requires { (length (lines_of recipe.now) ≤ 64) × (32 * length (lines_of recipe.now) ≤ length room.now) × ((k : ℕ) → get_or lengths k 0 ≤ 32) × HasRoom w.old 2368 }
     ensures { WroteAtMost 2368 (replies_from lengths room.now 0 (lines_of recipe.now)) w.old w.new }
 {
-    let lines = Lines { rest: recipe };
+    let lines = Lines::new(recipe);
     // by the line's number, under which `Loaded` has the length and the room the reply
     for k in 0..lines.count() {
         let from = 32 * k;
@@ -82,7 +57,7 @@ fn line_behind(text: &[u8], others: usize) -> &[u8]
     ensures result_value { result.now ≡ get_or (lines_of text.now) others [] }
     ensures result_in_bounds { length result.now ≤ length text.now }
 {
-    let mut lines = Lines { rest: text };
+    let mut lines = Lines::new(text);
     lines.nth(others).unwrap_or(b"")
 }
 

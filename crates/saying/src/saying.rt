@@ -35,9 +35,7 @@ fn write_first_missed(figures: Figures, range: u32, w: &mut Writer)
     ensures { WroteAtMost 10 (range_missed range (entries_of figures)) w.old w.new }
 {
     let row = figures.row(range);
-    let first = row
-        .iter()
-        .find(|g| !(g.lowest..=g.highest).contains(&g.number));
+    let first = row.iter().find(|g| !g.fits());
     if let Some(&missed) = first {
         write_range(missed, w);
     }

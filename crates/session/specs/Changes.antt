@@ -1,6 +1,6 @@
 -- What a call does to a zone: what documents 01 and 02 have a done write, report, removal, addition, choice of a source, booking, shipment, merging, repair or recipe set is set, and nothing else becomes of any zone. The hypotheses of the demands on whole sessions are said in these words.
 -- "P → ⊥" says that P does not hold, "P × Q" that both do.
-use Rattle.std.specs.Prelude.{ℕ, ◌+◌, ◌≡◌, true, false, cond, List, [], ◌∷◌, ◌++◌, eqb, Err, Ok}
+use Rattle.std.specs.Prelude.{ℕ, ◌+◌, ◌≡◌, true, false, cond, Ok, Err, List, [], ◌∷◌, ◌++◌, eqb}
 use Rattle.zone.specs.declared.figures.Group.{Group}
 use Rattle.zone.specs.declared.figures.Group.TheVariants.{Ahue}
 use Rattle.zone.specs.declared.figures.Figures.{Figures}

@@ -1,8 +1,8 @@
 -- "Sending order" (document 02, Req 10): which lines and frames may change places, what is the same if they do, and what does not commute. Above each statement stands where it is proved.
 -- A card that refuses everything would satisfy all of it but the worked cases; demand 2 rules that one out (WritesAreJudged, in Demands.antt).
--- How to read it. "(x : A) → P" says that P holds for every x, "P → Q" that Q holds where P does ("P → Q → R" that R holds where both do), "⊥" never holds, so "P → ⊥" says that P does not hold, "Unit" always does; "P × Q" says that both hold and "(x : A) × P" that there is an x with P, "P ⊎ Q" that one of the two holds, "P ↔ Q" that each holds where the other does, "x ≡ y" that they are equal.
+-- How to read it. "(x : A) → P" says that P holds for every x, "P → Q" that Q holds where P does ("P → Q → R" that R holds where both do), "⊥" never holds, so "P → ⊥" says that P does not hold, "Unit" always does; "P × Q" says that both hold and "(x : A) × P" that there is an x with P, "P ⊎ Q" that one of the two holds, "P ↔ Q" that each holds where the other does, "Some x" is that x and "None" that there is none, "Ok x" is what was read and "Err y" why it was not, "x ≡ y" that they are equal.
 -- Of a "record" all lines hold, of a "data" one; "Type 0" is what statements and kinds of things are, and what stands in braces is found from the rest. "[]" is the empty list, "x ∷ xs" is x and behind it the list xs, "map f xs" has f of each; "A × B" are the pairs "(a, b)", of which ".0" is the first part and ".1" the second; "z.part" is that part of z, "λ x. e" what gives e for x. "true" and "false" are what tests give ("Bool"): "eqb a b" tests whether two numbers are equal, "&&" is and, "||" or, "not" the contrary.
-use Rattle.std.specs.Prelude.{ℕ, ◌≡◌, ◌⊎◌, ◌↔◌, true, false, List, [], ◌∷◌, map, Err, Ok}
+use Rattle.std.specs.Prelude.{ℕ, ◌≡◌, ◌⊎◌, ◌↔◌, true, false, Ok, Err, List, [], ◌∷◌, map}
 use Prim.Native.String.{String}
 use Rattle.zone.specs.declared.figures.Group.{Group}
 use Rattle.zone.specs.declared.figures.Figures.{Figures}

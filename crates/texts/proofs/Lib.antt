@@ -3,3 +3,4 @@ pub mod Hex
 pub mod Fields
 pub mod Scans
 pub mod Parts
+pub mod Turns

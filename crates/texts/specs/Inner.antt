@@ -1,9 +1,8 @@
 -- What the functions on the way come to: steps for a reader in a loop, each tied by a law of proofs/ to what Numbers and Texts say. No promise of the log cites them.
 use Rattle.std.specs.Prelude.{ℕ, zero, suc, ◌+◌, Bool, false, cond, ◌||◌, Option, Some, None, List, [], ◌∷◌, get_or, take, drop, eqb}
-use Rattle.texts.specs.Texts.{index_of}
 use Rattle.wire.specs.Road.{Numbers, are, none}
 use Rattle.texts.specs.Numbers.{decimal_of, digit_read}
-use Rattle.texts.specs.Texts.{tab, line_feed, field, Zoned, to, lacking}
+use Rattle.texts.specs.Texts.{index_of, tab, line_feed, field, Zoned, to, lacking}
 
 -- ---- decimals
 

@@ -1,5 +1,5 @@
 -- The numbers of a text, as document 01 has them in its log: decimals, and bytes in capital hexadecimal digits.
-use Rattle.std.specs.Prelude.{ℕ, ◌+◌, ◌-◌, ◌*◌, ◌/◌, ◌%◌, Bool, cond, not, ◌&&◌, List, [], ◌∷◌, length, get_or, ltb, eqb, None, Option, Some}
+use Rattle.std.specs.Prelude.{ℕ, ◌+◌, ◌-◌, ◌*◌, ◌/◌, ◌%◌, Bool, cond, not, ◌&&◌, Option, Some, None, List, [], ◌∷◌, length, get_or, ltb, eqb}
 use Rattle.zone.specs.Lists.{within}
 use Rattle.wire.specs.Road.{Numbers, are, none, join}
 use Rattle.line.specs.Field.{digits_behind}

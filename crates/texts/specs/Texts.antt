@@ -1,5 +1,5 @@
 -- The lines of a text, and the fields of a line: where a line feed ends the one and a tab the other; a zone with what is for it; and a reply as it stands in a line.
-use Rattle.std.specs.Prelude.{ℕ, suc, cond, List, [], ◌∷◌, ◌++◌, take, drop, eqb, None, Option, Some}
+use Rattle.std.specs.Prelude.{ℕ, suc, cond, Option, Some, None, List, [], ◌∷◌, ◌++◌, take, drop, eqb}
 use Rattle.texts.specs.Numbers.{decimal_of}
 
 abbrev pub line_feed : ℕ

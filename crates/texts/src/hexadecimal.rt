@@ -4,7 +4,7 @@ ghost use Rattle.wire.specs.Room.{Filled};
 ghost use Rattle.texts.specs.Numbers.{bytes_read, in_hex, hex_digit};
 ghost use Rattle.texts.specs.Inner.{digit_values, counted, count_of};
 
-// What each byte is as a digit: 0 to 9, A to F, or 16 where it is none.
+// What each byte is as a digit: 0 to 9, A to F, or 16 where it is none, and no Option: the table is of bytes (digit_values).
 pub fn digit_values() -> [u8; 256]
     ensures { result ≡ digit_values }
 {

@@ -9,4 +9,4 @@ mod lines;
 
 pub use decimals::{behind_tab, zone_at};
 pub use hexadecimal::{digit_values, put_hex, unhex};
-pub use lines::line_end;
+pub use lines::{Lines, line_end};

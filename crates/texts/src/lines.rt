@@ -1,6 +1,7 @@
-// Where a byte is first found, and where a line of a text ends.
+// Where a byte is first found, where a line of a text ends, and a text line by line.
 ghost use Rattle.std.specs.Prelude.{◌≡◌, ◌+◌, ◌≤◌, length, drop};
-ghost use Rattle.texts.specs.Texts.{line_feed, index_of};
+ghost use Rattle.std.specs.Iterator.{YieldsFirstRef, item_count};
+ghost use Rattle.texts.specs.Texts.{line_feed, index_of, lines_of};
 ghost use Rattle.texts.specs.Inner.{has_feed};
 
 // The index of the first x from `from` on, or the bytes' length.
@@ -31,7 +32,41 @@ pub fn line_end(block: &[u8], from: usize) -> usize
         if has_feed(part) {
             break;
         }
+        // `as_chunks::<16>` with `position`, and `split_first_chunk`, are proved too, and slower.
         at += 16;
     }
     find(block, at, b'\n')
+}
+
+// What is left of a text, line by line.
+#[derive(Drop)]
+pub struct Lines<'a> {
+    rest: &'a [u8],
+}
+
+impl<'a> Lines<'a> {
+    // The lines of a text.
+    pub fn new(text: &'a [u8]) -> Lines<'a>
+        ensures { result.rest.now ≡ text.now }
+    {
+        Lines { rest: text }
+    }
+}
+
+impl<'a> Iterator for Lines<'a> {
+    type Item = &'a [u8];
+
+    ghost next_gives = { YieldsFirstRef (λ s. lines_of s.rest.now) };
+
+    ghost remaining = { item_count (λ s. lines_of s.rest.now) };
+
+    #[tactic(auto, using(crate::proofs::Turns::no_more, crate::proofs::Turns::within_text, crate::proofs::Turns::turn))]
+    fn next(&mut self) -> Option<&'a [u8]> {
+        if self.rest.is_empty() {
+            return None;
+        }
+        let (line, rest) = self.rest.split_at(line_end(self.rest, 0));
+        self.rest = &rest[rest.len().min(1)..];
+        Some(line)
+    }
 }

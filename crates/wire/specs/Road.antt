@@ -1,5 +1,6 @@
 -- A command in bytes, said once for both roads. A road says how wide a figure is, how it is written and how it is read; the table says the rest.
-use Rattle.std.specs.Prelude.{ℕ, ◌+◌, Bool, true, cond, List, [], ◌∷◌, ◌++◌, length, ltb, eqb, Option, Some, None, Result, Ok, Err}
+use Rattle.std.specs.Prelude.{ℕ, ◌+◌, Bool, true, cond, Option, Some, None, Ok, Err, List, [], ◌∷◌, ◌++◌, length, ltb, eqb}
+use Rattle.std.specs.Prelude as std
 use Rattle.zone.specs.declared.figures.Group.{Group}
 use Rattle.zone.specs.declared.figures.Figures.{Figures}
 use Rattle.zone.specs.declared.figures.Command.{Command}
@@ -7,8 +8,8 @@ use Rattle.zone.specs.declared.figures.Command.TheVariants.{Read, Write}
 use Rattle.zone.specs.Lists.{every, total}
 use Rattle.zone.specs.Table.{Kind, Column, Form, layout, forms_of}
 use Rattle.zone.specs.Figures.{Entry, entries_of, made}
-use Rattle.wire.specs.declared.Misread.{Misread}
 use Rattle.wire.specs.declared.Misread.TheVariants.{Syntax, Unknown}
+use Rattle.wire.specs.declared.Misread.{Misread}
 
 pub record Road : Type 0 where
   -- the bytes before the figures: letter and name, or address, function and index
@@ -19,7 +20,7 @@ pub record Road : Type 0 where
   -- a figure of a kind: how many bytes it takes, and the first number that they cannot carry
   pub width : Kind → ℕ
   pub bound : Kind → ℕ
-  -- the bytes of a number, and what is found in bytes from an index on
+  -- the bytes of a number, and the number that is found in bytes from an index on, or None where what stands there is no figure
   pub bytes_for : Kind → ℕ → List ℕ
   pub found_at : Kind → List ℕ → ℕ → Option ℕ
 
@@ -54,11 +55,11 @@ length_of road form = road.head + total (λ k. road.width k.kind) (layout form).
 
 -- ---- reading
 
--- what a line, or the body of a frame, is found to be: a command, or why it is none
+-- what a line, or the body of a frame, is found to be: a command (Ok), or why it is none (Err): Unknown, which has no known function, letter, name or index, or is a line under 5 bytes; Syntax, which has a wrong length, space or digit. The Result is the standard library's, not the one of card's Answers
 abbrev pub Parsed : Type 0
-Parsed = Result Command Misread
+Parsed = std.Result Command Misread
 
--- the numbers of a layout, or none where one of them is no figure
+-- the numbers of a layout, or none (a case of its own, and not Option's None) where one of them is no figure
 pub data Numbers : Type 0 where
   are : List ℕ → Numbers
   none : Numbers

@@ -1,4 +1,5 @@
-// What the two roads have in common: what bytes are found to be, and bytes put into a lent room.
+// What the two roads have in common: what bytes are found to be (Parsed), bytes put into a lent room (copy, put, append),
+// and whether a road carries figures (carries).
 //
 // specs/Road.antt says once for both roads how a command stands in bytes; a road adds how wide a
 // figure is and how it is written and read. proofs/Layouts.antt proves once for both that what was

@@ -91,7 +91,7 @@ fn figure(number: u32, lowest: u32, highest: u32) -> Ranged
 }
 
 impl Ranged {
-    fn fits(self) -> bool
+    pub fn fits(self) -> bool
         ensures { result ≡ within self.lowest self.highest self.number }
     {
         (self.lowest <= self.number) & (self.number <= self.highest)
@@ -176,6 +176,7 @@ impl Figures {
         self.each_in_range(range) & self.opens()
     }
 
+    // The word of groups_zero for figures, public for callers; a zone is compared as a whole here.
     #[tactic(auto, unfolding(crate::specs::Figures::all_zero))]
     pub fn all_zero(self) -> bool
         ensures { result ≡ all_zero self }

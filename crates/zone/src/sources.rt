@@ -17,7 +17,8 @@ pub struct Origin {
 }
 
 impl Origin {
-    // It is that of a new zone, and of an absent one.
+    // It is that of a new zone, and of an absent one: the word of holds_nothing for an origin, public for callers;
+    // a zone is compared as a whole here.
     pub fn is_new(self) -> bool
         ensures { result ≡ is_new self }
     {

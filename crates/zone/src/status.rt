@@ -19,7 +19,8 @@ pub struct Status {
     pub actual: u32,
 }
 
-// The state of that number; a number above 3, which no report gets as far as, is Error.
+// The state of that number; a number above 3, which no report gets as far as, is Error. No TryFrom: state_numbered
+// has a state for each number.
 impl From<u32> for State {
     ghost from_gives = { λ number state. state ≡ state_numbered number };
 
@@ -44,6 +45,7 @@ impl State {
         }
     }
 
+    // The word of holds_nothing for a state, public for callers; a zone is compared as a whole here.
     pub fn is_off(self) -> bool
         ensures { result ≡ is_off self }
     {

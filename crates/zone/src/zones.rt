@@ -63,6 +63,7 @@ impl Watch {
         }
     }
 
+    // 0 for a deadline, and no Option: end_of is a number for each watch.
     fn end(self) -> u32
         ensures { result ≡ end_of self }
     {
@@ -115,7 +116,8 @@ impl Zone {
         }
     }
 
-    // An absent zone: it holds nothing.
+    // An absent zone: it holds nothing. It is no derived Default, which Watch cannot have: both its
+    // variants hold figures.
     pub fn empty() -> Zone
         ensures { result ≡ empty_zone }
     {
@@ -214,7 +216,7 @@ impl Zone {
         self.figures(Group::Ahue).opens()
     }
 
-    // The end of the zone's window; 0 where it has none.
+    // The end of the zone's window; 0 where it has none, as in end_of, and so no Option.
     pub fn window_end(self) -> u32
         ensures { result ≡ end_of self.watch }
     {

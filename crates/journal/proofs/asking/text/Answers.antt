@@ -20,8 +20,8 @@ returns-then-not-is_tabbed c = rw (text_untabbed _ (sym c.is_tabbed.ensures ∙ 
 asked : (l : List ℕ) (a a' : Option (ℕ × ℕ)) → tabbed (drop 1 l) ≡ true → zoned_seen l a ≡ zoned (drop 2 l) → a ≡ a' → text_asks (drop 1 l) ≡ zoned_asks (zoned_seen l a')
 asked l a a' h e q = text_zoned l h ∙ ap zoned_asks (sym e ∙ ap (zoned_seen l) q)
 
-pub returns-in_default : goal.returns-in_default
-returns-in_default c = rw (asked c.args.line.now c.zone_at.result None (sym c.is_tabbed.ensures ∙ c.if-not-is_tabbed.false) c.zone_at.ensures.result_value c.in_default.is)
+pub returns-in_err-zone : goal.returns-in_err-zone
+returns-in_err-zone c = rw (c.from_residual.ensures, asked c.args.line.now c.zone_at.result None (sym c.is_tabbed.ensures ∙ c.if-not-is_tabbed.false) c.zone_at.ensures.result_value c.in_err-zone.was)
 
 pub returns : goal.returns
-returns c = rw (asked c.args.line.now c.zone_at.result _ (sym c.is_tabbed.ensures ∙ c.if-not-is_tabbed.false) c.zone_at.ensures.result_value c.in-Some.is, c.read.ensures, part_to_end)
+returns c = rw (asked c.args.line.now c.zone_at.result _ (sym c.is_tabbed.ensures ∙ c.if-not-is_tabbed.false) c.zone_at.ensures.result_value c.in_ok-zone.was, c.read.ensures, part_to_end)

@@ -1,12 +1,7 @@
--- Before each turn the lines that were gone through, and those that are left, make all of them.
-use Prim.Native.Nat.{◌-◌, ◌≤◌}
-use lib.ListN.{length, drop}
+-- What is gathered and the lines that are left make the whole.
 use Rattle.texts.specs.Texts.{lines_of}
 use Rattle.recipes.proofs.Surveys.{Ahead}
 use Rattle.recipes.proofs.lines.survey.Given as goal
 
-abbrev pub invariant-loop-at : goal.invariant-loop-at
-invariant-loop-at l = (l.lines ≤ l.at) × Ahead (lines_of l.recipe) (lines_of (drop l.at l.recipe)) l.lines l.formed l.cuts
-
-abbrev pub decreases-loop-at : goal.decreases-loop-at
-decreases-loop-at l = length l.recipe - l.at
+abbrev pub invariant-loop-line : goal.invariant-loop-line
+invariant-loop-line l = Ahead (lines_of l.recipe) (lines_of l.line-iterator.rest.now) l.lines l.formed l.cuts

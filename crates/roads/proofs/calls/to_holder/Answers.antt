@@ -6,13 +6,13 @@ use Rattle.roads.proofs.calls.to_holder.Goals as goal
 
 pub returns-in-None : goal.returns-in-None
 unfolding frame_at
-returns-in-None c = (rw (c.silent.ensures, sym c.find.ensures ∙ c.in-None.is), rw c.silent.ensures (silent_place _ _))
+returns-in-None c = (rw (c.silent.ensures, sym (rw c.from.ensures at c.find.ensures) ∙ c.in-None.is), rw c.silent.ensures (silent_place _ _))
 
 pub returns-in-Some : goal.returns-in-Some
 unfolding frame_at
 returns-in-Some c =
     let a = c.args in (
-      rw (sym c.find.ensures ∙ c.in-Some.is)
+      rw (sym (rw c.from.ensures at c.find.ensures) ∙ c.in-Some.is)
           (frame_answer a.r c.in-Some.zone a.address a.asked a.room.now _ _ c.ask-outcome.result c.ask-outcome.ensures c.put_frame-length.ensures),
       refl,
     )

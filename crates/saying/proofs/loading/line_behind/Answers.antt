@@ -14,7 +14,7 @@ behind (Some x) d = refl
 pub returns : goal.returns
 returns c =
     let lines = lines_of c.args.text.now in
-    let nth = nth_from_yields_List {all = lines} c.nth.result c.nth.new.self c.args.others c.nth.ensures.ran (YieldsList-from_first (λ x. x.now) (λ s. lines_of s.rest.now) _ refl) in
+    let nth = nth_from_yields_List {all = lines} c.nth.result c.nth.new.self c.args.others c.nth.ensures.ran (YieldsList-from_first (λ x. x.now) (λ s. lines_of s.rest.now) _ (ap (λ (t : List ℕ). lines_of t) c.new-lines.ensures)) in
     let value : c.unwrap_or.result.now ≡ get_or lines c.args.others [] =
     ap (λ (x : Bor (List ℕ)). x.now) c.unwrap_or.ensures ∙ behind c.nth.result _ ∙ ap (λ (o : Option (List ℕ)). unwrap_or o []) nth ∙ unwrap_or-slice_get lines c.args.others [] in
     record { result_value = value; result_in_bounds = rw value (line_short c.args.text.now c.args.others) }

@@ -2,5 +2,5 @@
 use Rattle.card.proofs.Mending.{MendsTo}
 use Rattle.card.proofs.records.Record.all_mended.Given as goal
 
-abbrev pub invariant-loop-i : goal.invariant-loop-i
-invariant-loop-i l = MendsTo l.fn.self.zones l.after.zones l.i
+abbrev pub invariant-loop-z : goal.invariant-loop-z
+invariant-loop-z l = MendsTo l.fn.self.zones l.z-items l.z-index

@@ -1,15 +1,9 @@
--- The two scans are the definition's; that there are sixteen zones is the array's length.
-use mathlib.Core.Path.{◌≡◌}
-use lib.ListN.{length}
+-- What is asked of each zone is what the definition asks of it.
 use borrow.Author.Rules.{rules}
-use borrow.Author.Tests.{eq-eqb}
+use Rattle.zone.specs.Zones.{zone_otherwise_sound}
 use Rattle.card.specs.Records.{otherwise_sound}
-use Rattle.card.proofs.Scans.{length_mapped}
 use Rattle.card.proofs.records.Record.is_otherwise_sound.Goals as goal
 
 pub returns : goal.returns
 unfolding otherwise_sound
-returns c =
-    let zs = c.args.self.zones in
-    let h : length zs ≡ 16 = search (rules, length_mapped) in
-    rw (eq-eqb (length zs) 16 h, c.addresses_differ.ensures, c.zones_otherwise_sound.ensures)
+returns c = c.sound_by.ensures zone_otherwise_sound (λ z b k. search rules)
