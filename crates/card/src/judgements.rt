@@ -127,7 +127,7 @@ pub fn booked(z: Zone, kilograms: u32) -> Verdict
     Verdict::Rebooks(z.kilograms + kilograms)
 }
 
-// A shipment of so many of the kilograms on a zone.
+// A shipment of so many of the kilograms on a zone. It shares a refusal with a booking, and neither test nor sum.
 pub fn shipped(z: Zone, kilograms: u32) -> Verdict
     ensures { steps.verdict_seen z result ≡ steps.judged z (ship_at z kilograms) }
 {

@@ -35,7 +35,7 @@ pub struct OldEnd {
 }
 
 // As many of the sixteen are told as `count` says, in rising order of the zones; the others are zeros.
-// A length beside its buffer, since `told_as` promises both and the library uses no heap.
+// A length beside its buffer, since `told_as` has both and the library uses no heap; so `old_ends` fills it by index.
 #[derive(Clone, Copy, PartialEq, Eq)]
 pub struct OldEnds {
     pub count: usize,

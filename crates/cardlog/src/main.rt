@@ -32,7 +32,8 @@ const BUFFER: usize = 16384;
 // numbers: they are the journal's business (what `feed` requires), of which `output`, what the programs share, knows nothing.
 const OUT: usize = 8 * BUFFER + 40;
 
-// How the reading of the log stands: more of it may come, or it has ended.
+// How the reading of the log stands: more of it may come, or it has ended. A read that failed is no case here: it ends
+// the turn at once.
 #[derive(Clone, Copy, PartialEq, Eq)]
 enum Log {
     More,
@@ -102,7 +103,7 @@ fn turn(
     answer(rt, r, buffer, held + count, out, Log::More)
 }
 
-// Block after block, to the end of the input.
+// Block after block, to the end of the input, over buffers and a turn of the program's own.
 fn run(rt: &(impl Print + Eprint), input: &mut impl Read) -> ExitCode {
     let mut buffer = [0u8; BUFFER];
     let mut out = [0u8; OUT];

@@ -102,7 +102,7 @@ fn turn(
     hear_all(rt, state, &block[..count], line, out);
 }
 
-// Block after block, to the end of the input.
+// Block after block, to the end of the input, over buffers and a turn of the program's own.
 fn run(rt: &(impl Print + Eprint), input: &mut impl Read, given: Record) -> ExitCode {
     let mut line = [0u8; 601];
     let mut out = [0u8; 1500];

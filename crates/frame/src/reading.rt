@@ -45,7 +45,8 @@ fn single(body: &[u8]) -> Result<u32, Misread>
     Ok(two(body, 3))
 }
 
-// The figures of a write of each group: the body's length says which of the group's forms it is.
+// The figures of a write of each group, by a function of its own, for its case and its figures: the body's length
+// says which of the group's forms it is.
 #[tactic(auto, unfolding(wire::specs::Road::form_read, wire::specs::Road::write_read))]
 fn ahue(body: &[u8]) -> Parsed
     ensures { result ≡ write_read frame_road (forms_of Group.Ahue) body.now }

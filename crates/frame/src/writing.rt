@@ -30,7 +30,7 @@ pub fn put_short(address: u8, function: u8, room: &mut [u8]) -> usize
     wire::copy(&[0x10, address, function, sum, 0x16], room)
 }
 
-// The low byte of a number, and the one above it.
+// The low byte of a number, and the one above it, each by its name.
 fn low(n: u32) -> u8
     ensures { result ≡ n % 256 }
 {

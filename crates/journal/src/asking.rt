@@ -8,7 +8,8 @@ use frame::Framed;
 use texts::{behind_tab, digit_values, unhex, zone_at};
 use wire::Parsed;
 
-// The letters N, X, M, T and F, and every other line; a command or a frame has been read.
+// The letters N, X, M, T and F, and every other line; a command or a frame has been read. A line that cannot be read is
+// a case of its own: it is answered, under a letter and a number.
 #[derive(Clone, Copy)]
 pub enum Entry {
     Add(usize, u32, u32),
@@ -32,6 +33,7 @@ fn three(line: &[u8]) -> Option<(u32, u32, u32)>
     Some((a, b, c))
 }
 
+// An addition and a report are the same three numbers, of two entries.
 fn add(line: &[u8]) -> Option<Entry>
     ensures { result ≡ entry_in (add_asks (decimals 3 (drop 1 line.now))) }
 {

@@ -9,7 +9,8 @@ use crate::writing::put_judged;
 use card::Record;
 use texts::line_end;
 
-// The record after the lines that were answered, where they end, and how much output there is.
+// The record after the lines that were answered, where they end, and how much output there is; of what is held then,
+// which `Kept` tells, nothing is known yet.
 #[derive(Clone, Copy)]
 struct Done {
     after: Record,

@@ -23,6 +23,7 @@ pub fn whom(entry: Entry) -> Option<u32>
     }
 }
 
+// 16, as the definition of that name has it, where there is none.
 fn zone_found(found: Option<usize>) -> usize
     ensures { result ≡ zone_found found }
 {

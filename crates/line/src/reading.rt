@@ -56,6 +56,7 @@ fn whole(line: &[u8], length: usize, figures: Figures) -> Result<Figures, usize>
     }
 }
 
+// Each form is read by a function of its own, for its case and its figures; `watched`, `figure` and `whole` are shared.
 #[tactic(auto, using(crate::proofs::Three::watched_wrong), unfolding(crate::specs::Inner::form_walked))]
 fn deadline(line: &[u8]) -> Result<Figures, usize>
     ensures { result ≡ form_walked Form.deadline line.now }
@@ -193,7 +194,7 @@ pub fn read(line: &[u8]) -> Reading
 }
 
 // Where the first figure out of its range starts, in the line of those figures, or the end of a window
-// that does not open before it closes; 0 if nothing is out of range.
+// that does not open before it closes; 0, as `told` has it, if nothing is out of range.
 fn first_out(figures: Figures, range: u32) -> usize
     ensures { result ≡ told (out_of range figures) }
 {
@@ -204,7 +205,7 @@ fn first_out(figures: Figures, range: u32) -> usize
     }
 }
 
-// The same of a line that was read: only a write has figures.
+// The same of a line that was read: only a write has figures, and else it is 0, as `told` has it.
 pub fn out_at(parsed: Parsed, range: u32) -> usize
     ensures { result ≡ told (out_in range parsed) }
 {

@@ -1,7 +1,7 @@
 // The program that is timed for recipes: a card of sixteen fresh zones gets a recipe so many times over, loaded whole
 // or its lines sent singly, and the room with the last replies is written.
 //
-// The first line of its input is how often, at most 99999, a tab, and W or S for whole or singly; the rest is the
+// The first line of its input is how often, at most 99999, a tab, and W for whole or another byte for singly; the rest is the
 // recipe, of at most 64 lines. It promises nothing: what is timed is proved in the crates below, and bench/speed.sh
 // compares what is written with what a program in C writes. All that a call hands back is used, so that none of it can
 // be left out: the record by the next call, the replies by the last write, the lengths by the room's last byte.

@@ -66,7 +66,7 @@ fn put_in_text(reply: Option<Acknowledgement>, room: &mut [u8]) -> usize
     }
 }
 
-// The reply to a line.
+// The reply to a line. Each road has its definitions (text_reply, frame_reply), and so its functions.
 pub fn put_text(answer: Answer, room: &mut [u8]) -> usize
     requires { 32 ≤ length room.old }
     ensures { Filled (text_reply (number_of answer) (values_of answer)) room.old room.new result }

@@ -15,6 +15,7 @@ use zone::Command;
 #[derive(Clone, Copy)]
 pub struct Replied {
     pub answer: Answer,
+    // 0 without a reply, as document 01 has it
     pub length: usize,
     // 0, and no Option: the buyer's table has it so (text_place)
     pub place: usize,
@@ -31,7 +32,7 @@ pub fn asked(parsed: Parsed) -> Result<Command, Refusal>
     })
 }
 
-// The place that the answer to a line carries, in a zone of that temperature range.
+// The place that the answer to a line carries, in a zone of that temperature range; 0, as `place_found` has it, if none.
 pub fn place_of(answer: Answer, reading: Reading, range: u32) -> usize
     ensures { result ≡ place_found (number_of answer) reading range }
 {

@@ -8,9 +8,11 @@ use zone::Command;
 #[derive(Clone, Copy)]
 pub struct Composed {
     pub answer: Answer,
+    // 0 where it is refused, as document 01 has it
     pub length: usize,
 }
 
+// A composing that is refused: no record is handed back, so this is not the `refused` of calls.
 fn refused(why: Refusal) -> Composed
     ensures { result ≡ record { answer = Answer.Refused why; length = 0 } }
 {

@@ -14,7 +14,7 @@ pub fn one_of_sixteen(n: usize) -> usize
     n.min(15)
 }
 
-// The number names no zone, or an absent one.
+// The number names no zone, or an absent one. The record's own test is of a number alone; here the zone is at hand.
 pub fn is_missing(z: Zone, zone: usize) -> bool
     ensures { result ≡ missing z zone }
 {

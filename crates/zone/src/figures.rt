@@ -30,6 +30,7 @@ pub struct WindowFigures {
     pub end: u32,
 }
 
+// Two structs with one figure each: document 01 asks for a struct of figures for each case.
 #[derive(Clone, Copy, Default, PartialEq, Eq)]
 pub struct LimitFigures {
     pub time: u32,
@@ -154,6 +155,7 @@ impl Figures {
     pub fn each_in_range(self, range: u32) -> bool
         ensures { result ≡ each_in_range range self }
     {
+        // no test is passed over, so that there is no branch
         let [a, b, c, d, e] = self.fits(range);
         a & b & c & d & e
     }

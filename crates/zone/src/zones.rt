@@ -173,6 +173,7 @@ impl Zone {
         self
     }
 
+    // The setters are one for each part, as their definitions are.
     // The zone as a report leaves it.
     pub fn with_status(mut self, status: Status) -> Zone
         ensures { result ≡ with_status self status }
@@ -267,6 +268,7 @@ impl Zone {
             & self.groups_each_in_range()
     }
 
+    // The four by name: an array of them would say no more.
     fn groups_each_in_range(self) -> bool
         ensures { result ≡ groups_each_in_range self }
     {
