@@ -1,20 +1,16 @@
 -- What the searches cite: the library's search is that of the definitions, and parts without a line feed are passed. Assumes nothing.
 use Prim.Native.Nat.{ℕ, zero, suc, ◌+◌, ◌-◌, ◌≤◌, ◌<◌}
 use mathlib.Core.Path.{◌≡◌, refl, sym}
-use mathlib.Core.Bool.{Bool, true, false, cond, ◌||◌, or_assoc, or-false}
+use mathlib.Core.Bool.{true, false, cond, ◌||◌, or_assoc, or-false}
 use mathlib.Core.List.{List, [], ◌∷◌, ◌++◌}
 use native.Mathlib.Omega.{arith}
 use native.Mathlib.Nat.{zero-add}
 use native.Mathlib.Numerals.{add-one}
-use lib.Dec.{eqb, ltb}
+use lib.Dec.{eqb}
 use lib.ListN.{length, take, drop, get_or, drop_of_length-le, length-drop}
 use lib.Seq.{take_all, drop-cons}
-use borrow.Author.Tests.{ltb-false}
 use Rattle.std.specs.List.{position_or_len}
-use Rattle.std.specs.Option.{unwrap_or}
-use Rattle.std.proofs.Common.{Some, None}
 use Rattle.std.proofs.lemmas.List.Recursion.{is_position_or_len}
-use Rattle.std.proofs.lemmas.List.Sums.{prefix_len-le-length}
 use Rattle.texts.specs.Texts.{index_of, line_feed}
 use Rattle.texts.specs.Inner.{has_feed}
 use Rattle.zone.proofs.Tests.{neither}
@@ -24,14 +20,6 @@ pub left : (l : List ℕ) (from : ℕ) → take (length l - from) (drop from l) 
 left l from = take_all (length l - from) (drop from l) (rw length-drop (omega arith))
 
 -- ---- the library's search
-
--- its answer, or the length where there is none, is how many do not pass
-pub first_passes : {X : Type 0} (p : X → Bool) (l : List X) → unwrap_or (cond (ltb (position_or_len p l) (length l)) (Some (position_or_len p l)) None) (length l) ≡ position_or_len p l
-first_passes {X = X} p l = by_test (ltb (position_or_len p l) (length l)) refl
-  where
-    by_test : (t : Bool) → ltb (position_or_len p l) (length l) ≡ t → unwrap_or (cond t (Some (position_or_len p l)) None) (length l) ≡ position_or_len p l
-    by_test true e = refl
-    by_test false e = omega (arith, ltb-false (position_or_len p l) (length l) e, prefix_len-le-length {X = X})
 
 pub index_is : (x : ℕ) (l : List ℕ) → index_of x l ≡ position_or_len (λ y. eqb y x) l
 unfolding index_of

@@ -3,7 +3,8 @@ use Rattle.std.proofs.Common.{◌≡◌, ◌∙◌, sym, ◌-◌, eqb, rules, te
 use Rattle.std.proofs.lemmas.Iterator.{YieldsList-from_slice}
 use Rattle.std.proofs.lemmas.Iterator.Search.{position_from_yields_List}
 use Rattle.texts.specs.Texts.{index_of}
-use Rattle.texts.proofs.Scans.{left, first_passes, index_is}
+use Rattle.line.proofs.FieldLaws.{first_passes}
+use Rattle.texts.proofs.Scans.{left, index_is}
 use Rattle.texts.proofs.lines.find.Goals as goal
 
 pub returns-clause-place : goal.returns-clause-place
