@@ -23,3 +23,7 @@ sum_split (suc k) (x ∷ l) = rw (sum_split k l) (sym (add_assoc x (sum_of (take
 -- A block of k bytes from index i on: the remainder taken behind it does not alter the remainder of the whole.
 pub sum_block : (l : List ℕ) (i k s : ℕ) → ((s + sum_of (take k (drop i l))) % 256 + sum_of (drop (i + k) l)) % 256 ≡ (s + sum_of (drop i l)) % 256
 sum_block l i k s = rw (mod-add-mod, add_assoc, ← drop-drop k i l, ← sum_split k (drop i l))
+
+-- The same of a front of any length, and what stands behind it.
+pub sum_front : (k : ℕ) (l front rest : List ℕ) (s : ℕ) → front ≡ take k l → rest ≡ drop k l → ((s + sum_of front) % 256 + sum_of rest) % 256 ≡ (s + sum_of l) % 256
+sum_front k l front rest s f r = rw (f, r) (rw (zero-add k) at (sum_block l 0 k s))
