@@ -12,7 +12,7 @@
 // ends in silence, with the status that a closed pipe's signal would have given it.
 #![tactic(auto)]
 
-ghost use Rattle.std.specs.Prelude.{◌≡◌, ◌≤◌, length, take};
+ghost use Rattle.std.specs.Prelude.{◌≡◌, ◌≤◌, IfSome, length, take};
 ghost use Rattle.saying.specs.Loading.{load_said};
 ghost use Rattle.cardload.specs.Turns.{Leaves, Turned};
 
@@ -99,7 +99,9 @@ fn set_up(input: &mut impl Read) -> Option<Record> {
 }
 
 // Reads a file to its end, or until there is no more room; none where a read fails.
-fn take_in<'a>(file: &mut impl Read, into: &'a mut [u8]) -> Option<&'a [u8]> {
+fn take_in<'a>(file: &mut impl Read, into: &'a mut [u8]) -> Option<&'a [u8]>
+    ensures { IfSome result (λ part. length part.now ≤ length into.old) }
+{
     let mut at: usize = 0;
     // A read takes as many bytes as it likes: no iterator counts them.
     while at < into.len() {
@@ -113,14 +115,18 @@ fn take_in<'a>(file: &mut impl Read, into: &'a mut [u8]) -> Option<&'a [u8]> {
 }
 
 // Opens the file of that name, which has to be text, and reads it.
-fn take_from<'a>(rt: &impl Files, name: &[u8], into: &'a mut [u8]) -> Option<&'a [u8]> {
+fn take_from<'a>(rt: &impl Files, name: &[u8], into: &'a mut [u8]) -> Option<&'a [u8]>
+    ensures { IfSome result (λ part. length part.now ≤ length into.old) }
+{
     let path = str::from_utf8(name).ok()?;
     let mut file = File::open(rt, path).ok()?;
     take_in(&mut file, into)
 }
 
 // Reads the file that the argument names.
-fn take_named<'a>(rt: &(impl Env + Files), into: &'a mut [u8]) -> Option<&'a [u8]> {
+fn take_named<'a>(rt: &(impl Env + Files), into: &'a mut [u8]) -> Option<&'a [u8]>
+    ensures { IfSome result (λ part. length part.now ≤ length into.old) }
+{
     let mut name = [0u8; 4096];
     let n = rt.arg(1, &mut name).ok()?;
     take_from(rt, &name[..n], into)
