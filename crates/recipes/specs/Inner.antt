@@ -75,11 +75,13 @@ told answer = (number_of answer, values_of answer)
 abbrev pub all_done : List (ℕ × List Figures) → Record → Trying
 all_done done r = record { number = 0; line = 0; place = 0; done = done; after = r }
 
--- one was refused
-pub record StopsAs (t : Trying) (s : Stopped) : Type 0 where
+-- one was refused, behind those that were done, which left that record
+pub record StopsAs (t : Trying) (s : Stopped) (before : List (ℕ × List Figures)) (r : Record) : Type 0 where
   pub number : t.number ≡ refusal_number s.why
   pub line : t.line ≡ s.line
   pub place : t.place ≡ s.place
+  pub done : t.done ≡ before
+  pub after : t.after ≡ r
 
 -- a refusal before any line is tried
 abbrev pub at_once : Refusal → Stopped

@@ -1,5 +1,5 @@
 // The call that loads a recipe.
-ghost use Rattle.std.specs.Prelude.{◌≡◌, true, map, ◌≤◌, length, take, IfOk, IfErr, OnOk, OnErr};
+ghost use Rattle.std.specs.Prelude.{◌≡◌, ◌-◌, true, map, ◌≤◌, length, take, IfOk, IfErr, OnOk, OnErr};
 ghost use Rattle.card.specs.Records.{sound};
 ghost use Rattle.recipes.specs.Recipes.{loaded_seen, load_of};
 ghost use Rattle.recipes.specs.Inner.{cut_seen, told, try_from, all_done, StopsAs, stored_as, refused_as, at_once};
@@ -48,7 +48,7 @@ impl From<Refusal> for Stopped {
 fn try_lines(r: &mut Record, cuts: &[Cut], answers: &mut [Answer; 64]) -> Result<(), Stopped>
     requires { (sound r.old ≡ true) × (length cuts.now ≤ 64) }
     ensures done { OnOk result (try_from 0 r.old (map cut_seen cuts.now) ≡ all_done (map told (take (length cuts.now) answers.new)) r.new) }
-    ensures stopped { IfErr result (StopsAs (try_from 0 r.old (map cut_seen cuts.now))) }
+    ensures stopped { IfErr result (λ s. StopsAs (try_from 0 r.old (map cut_seen cuts.now)) s (map told (take (s.line - 1) answers.new)) r.new) }
 {
     // By index, as in texts' `unhex`: of what is written through a `zip` nothing is known behind the loop.
     for (k, cut) in cuts.iter().enumerate() {

@@ -1,5 +1,5 @@
 -- A line is what came of it at its zone: where it is refused the rest is not tried, and else it is one more that was done.
-use Prim.Native.Nat.{ℕ, ◌<◌}
+use Prim.Native.Nat.{ℕ, ◌+◌, ◌-◌, ◌<◌}
 use mathlib.Core.Path.{◌≡◌, refl, sym, ap, ◌∙◌}
 use mathlib.Core.List.{List, map}
 use native.Mathlib.Omega.{arith}
@@ -11,6 +11,7 @@ use Rattle.card.specs.declared.records.Record.{Record}
 use Rattle.card.specs.Answers.{Result, number_of, values_of}
 use Rattle.card.specs.Records.{zone_at, with_zone}
 use Rattle.card.specs.Inner.{answer_by, after_by}
+use Rattle.card.proofs.Inner.{same_zone}
 use Rattle.recipes.specs.Inner.{cut_seen, told}
 use Rattle.recipes.proofs.Turns.{came, placed, ahead_next, ahead_stop, ahead_over, cut_next, told_more, refused_above, answers_zero}
 use Rattle.recipes.proofs.loading.try_lines.Goals as goal
@@ -31,7 +32,8 @@ returns-in-Refuses-clause-stopped c =
     let comes = came t.r line c.read-reading.result n c.asked_of.result v t.invariant.1.sound_still c.read-reading.ensures c.one_of_sixteen.ensures c.asked_of.ensures c.in-Refuses.ensures in
     let place = placed t.r line c.read-reading.result n _ c.place_of.result c.read-reading.ensures c.one_of_sixteen.ensures (ap (λ (x : Result Record). x.number) comes) c.place_of.ensures in
     let stop = ahead_stop c.args.r.now all t.r (map told (take t.k t.answers)) t.k line t.invariant.1 next (outcome t.r n v) c.place_of.result comes (λ z. absurd (omega (arith, refused_above c.in-Refuses.why, z))) place in
-    rw stop (record { number = refl; line = refl; place = refl })
+    let before : t.k ≡ t.k + 1 - 1 = omega arith in
+    rw stop (record { number = refl; line = refl; place = refl; done = ap (λ k. map told (take k t.answers)) before; after = sym (same_zone t.r n) })
 
 pub loop-k-preserved : goal.loop-k-preserved
 loop-k-preserved c =
